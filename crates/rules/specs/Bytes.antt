@@ -1,0 +1,28 @@
+-- Bytes and texts: what every part of the rules reads.
+use Prim.Native.Nat.{ℕ, zero, suc}
+use mathlib.Core.List.{List, [], _∷_}
+use mathlib.Core.Bool.{Bool, true, false, _&&_}
+use lib.Dec.{leb, eqb}
+use lib.ListN.{getD}
+
+abbrev pub Text : Type 0
+Text = List ℕ
+
+-- the byte at a place; past the end 256, which no byte is (00 is an ordinary one)
+abbrev pub byteAt : List ℕ → ℕ → ℕ
+byteAt s at = getD s at 256
+
+abbrev pub within : ℕ → ℕ → ℕ → Bool
+within low high b = leb low b && leb b high
+
+-- equal texts
+unfoldable pub same : Text → Text → Bool
+same [] [] = true
+same [] (b ∷ bs) = false
+same (a ∷ xs) [] = false
+same (a ∷ xs) (b ∷ bs) = elim (eqb a b) [ true ↦ same xs bs | false ↦ false ]
+
+-- The first place, from a place on, that a test does not pass, by steps from one place to the next; at most so many steps are made.
+unfoldable pub skip : (ℕ → Bool) → (ℕ → ℕ) → ℕ → ℕ → ℕ
+skip test step zero at = at
+skip test step (suc n) at = elim (test at) [ true ↦ skip test step n (step at) | false ↦ at ]

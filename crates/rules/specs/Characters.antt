@@ -1,0 +1,96 @@
+-- Document 01, "Reading": "A reading place goes forward one character at a time. Whitespace is bytes 09 to 0D, 1C to 1F, 20; newline
+-- is 0A only. Any other character is ordinary. A comment runs from `#` or `//` up to the newline."
+-- The text that is read is well-formed UTF-8 (number 2 comes first).
+use Prim.Native.Nat.{ℕ, zero, suc, _+_, _*_, _%_}
+use mathlib.Core.List.{List}
+use mathlib.Core.Bool.{Bool, true, false, not, _&&_, _||_}
+use lib.Dec.{ltb, eqb}
+use lib.ListN.{length}
+use Rattle.rules.specs.Bytes.{byteAt, within, skip}
+
+-- past the end there is no character; this is no code point
+abbrev pub noCharacter : ℕ
+noCharacter = 1114112
+
+-- how many bytes a character has, by its first
+unfoldable pub widthOf : ℕ → ℕ
+widthOf lead =
+    elim (ltb lead 128) [
+      | true ↦ 1
+      | false ↦ elim (ltb lead 224) [ true ↦ 2 | false ↦ elim (ltb lead 240) [ true ↦ 3 | false ↦ 4 ] ]
+    ]
+
+-- the place after the character at a place
+unfoldable pub next : List ℕ → ℕ → ℕ
+unfolding widthOf
+next s at = at + widthOf (byteAt s at)
+
+-- the character at a place, as its code point
+unfoldable pub characterAt : List ℕ → ℕ → ℕ
+characterAt s at =
+    let lead = byteAt s at in
+    elim (ltb lead 128) [
+      | true ↦ lead
+      | false ↦ elim (ltb lead 224) [
+        | true ↦ lead % 32 * 64 + byteAt s (at + 1) % 64
+        | false ↦ elim (ltb lead 240) [
+          | true ↦ lead % 16 * 4096 + byteAt s (at + 1) % 64 * 64 + byteAt s (at + 2) % 64
+          | false ↦ elim (ltb lead 256) [
+            | true ↦ lead % 8 * 262144 + byteAt s (at + 1) % 64 * 4096 + byteAt s (at + 2) % 64 * 64 + byteAt s (at + 3) % 64
+            | false ↦ noCharacter
+          ]
+        ]
+      ]
+    ]
+
+abbrev pub isNewline : ℕ → Bool
+isNewline c = eqb c 10
+
+abbrev pub isSpace : ℕ → Bool
+isSpace c = within 9 13 c || within 28 31 c || eqb c 32
+
+-- whitespace but newline: what may stand between the pieces of one value or path
+abbrev pub isInline : ℕ → Bool
+isInline c = isSpace c && not (isNewline c)
+
+-- a comment begins here
+unfoldable pub startsComment : List ℕ → ℕ → Bool
+startsComment s at =
+    elim (eqb (byteAt s at) 35) [
+      | true ↦ true
+      | false ↦ elim (eqb (byteAt s at) 47) [ true ↦ eqb (byteAt s (at + 1)) 47 | false ↦ false ]
+    ]
+
+-- the place after the whitespace but newlines
+unfoldable pub afterInline : List ℕ → ℕ → ℕ
+unfolding skip next characterAt
+afterInline s at = skip (λ p. isInline (characterAt s p)) (next s) (length s) at
+
+-- the newline that ends a comment, or the end
+unfoldable pub lineEnd : List ℕ → ℕ → ℕ
+unfolding skip next characterAt
+lineEnd s at = skip (λ p. not (isNewline (characterAt s p) || eqb (characterAt s p) noCharacter)) (next s) (length s) at
+
+-- the place after whitespace, newlines and comments, and whether a newline was among them
+pub record Gap : Type 0 where
+  pub place : ℕ
+  pub newline : Bool
+
+unfoldable pub gapFrom : ℕ → List ℕ → ℕ → Bool → Gap
+unfolding next characterAt startsComment lineEnd
+gapFrom zero s at newline = record { place = at; newline = newline }
+gapFrom (suc n) s at newline =
+    elim (isSpace (characterAt s at)) [
+      | true ↦ gapFrom n s (next s at) (newline || isNewline (characterAt s at))
+      | false ↦ elim (startsComment s at) [
+        | true ↦ gapFrom n s (lineEnd s at) newline
+        | false ↦ record { place = at; newline = newline }
+      ]
+    ]
+
+unfoldable pub gapAt : List ℕ → ℕ → Gap
+unfolding gapFrom
+gapAt s at = gapFrom (length s) s at false
+
+abbrev pub afterGap : List ℕ → ℕ → ℕ
+afterGap s at = gapAt s at .place

@@ -1,0 +1,141 @@
+-- Document 01, "The three jobs".
+use Prim.Native.Nat.{ℕ, _+_, _-_, min}
+use mathlib.Core.List.{List, [], _∷_, _++_}
+use mathlib.Core.Bool.{Bool, true, false, _&&_}
+use mathlib.Core.Option.{Option, none, some}
+use lib.Dec.{leb}
+use lib.ListN.{length}
+use Rattle.answers.specs.Ask.{Trail}
+use Rattle.answers.specs.Resolve.{Rules, Res, answer, stop, dry, resolve}
+use Rattle.rules.specs.Sizes.{maxBudget, maxPathText, maxNesting, maxRoom}
+use Rattle.rules.specs.Bytes.{Text}
+use Rattle.rules.specs.Refusals.{Refusal, placed, nowhere, spent, numberOf, placeOf, Scan, ok, fail}
+use Rattle.rules.specs.Utf8.{illFormed}
+use Rattle.rules.specs.Paths.{pathText}
+use Rattle.rules.specs.Values.{Value, Answer, withinSize}
+use Rattle.rules.specs.Unresolved.{rootValue}
+use Rattle.rules.specs.Documents.{Setting, Input, given, denied, inputs, ruleOf, countOf, firstByte}
+use Rattle.rules.specs.Sheet.{records, texts, trailTextSize, trailRecords, trailTexts, trailFits, tableFits}
+use Rattle.rules.specs.Checking.{accepted}
+use Rattle.rules.specs.LookUp.{isWhole, afterValue, valueNamed}
+
+-- ---- "Resolve: document, environment and budget in; trail, table, text and a count out."
+
+-- the used parts; on a refusal they are empty and the count is 0
+pub record Resolved : Type 0 where
+  pub number : ℕ
+  pub place : ℕ
+  pub count : ℕ
+  pub trail : List ℕ
+  pub table : List ℕ
+  pub text : List ℕ
+
+unfoldable pub refusedWith : Refusal → Resolved
+refusedWith x = record { number = numberOf x; place = placeOf x; count = 0; trail = []; table = []; text = [] }
+
+-- "its first 32,768 bytes are its room"
+abbrev pub roomOf : ℕ → ℕ
+roomOf length = min length maxRoom
+
+-- "A needed blend is taken from the trail; else 10; else 12; else it is begun, and when answered becomes the next entry."
+unfoldable pub orderOf : Setting → ℕ → ℕ → Rules Refusal Answer
+unfolding ruleOf firstByte trailFits
+orderOf x trailRoom textRoom = record {
+  rule = ruleOf x;
+  circular = λ b. placed 10 (firstByte x b);
+  excess = λ b. placed 12 (firstByte x b);
+  full = nowhere 14;
+  fits = trailFits trailRoom textRoom;
+}
+
+-- "After the trail, the table's size is tested (13), then it is written (14)."
+unfoldable pub handedBack : ℕ → ℕ → Res Refusal Answer Value → Resolved
+unfolding withinSize tableFits refusedWith records texts trailTextSize trailRecords trailTexts
+handedBack tableRoom textRoom (stop x) = refusedWith x
+handedBack tableRoom textRoom dry = refusedWith spent
+handedBack tableRoom textRoom (answer v S n) =
+    elim (withinSize v) [
+      | false ↦ refusedWith (nowhere 13)
+      | true ↦ elim (tableFits tableRoom textRoom S v) [
+        | false ↦ refusedWith (nowhere 14)
+        | true ↦ record {
+          number = 0;
+          place = 0;
+          count = n;
+          trail = trailRecords S;
+          table = records (trailTextSize S) v;
+          text = trailTexts S ++ texts v;
+        }
+      ]
+    ]
+
+unfoldable pub resolved : ℕ → ℕ → ℕ → ℕ → Input Setting → Resolved
+unfolding refusedWith orderOf rootValue handedBack
+resolved budget trailRoom tableRoom textRoom (denied x) = refusedWith x
+resolved budget trailRoom tableRoom textRoom (given x) =
+    handedBack tableRoom textRoom
+    (resolve (orderOf x trailRoom textRoom) budget (rootValue (x .document .root) (x .environment)) (countOf x))
+
+unfoldable pub resolveJob : List ℕ → List ℕ → ℕ → ℕ → ℕ → ℕ → Resolved
+unfolding inputs resolved
+resolveJob document environment budget trailLength tableLength textLength =
+    resolved budget (roomOf trailLength) (roomOf tableLength) (roomOf textLength)
+    (inputs (leb budget maxBudget) document environment)
+
+-- ---- "Check: document, environment and a sheet in; yes, or a refusal: 1 to 8 and a reading 11 as in resolve, else 17."
+
+pub record Verdict : Type 0 where
+  pub number : ℕ
+  pub place : ℕ
+
+unfoldable pub verdict : List ℕ → List ℕ → List ℕ → Input Setting → Verdict
+unfolding accepted
+verdict trail table text (denied x) = record { number = numberOf x; place = placeOf x }
+verdict trail table text (given x) =
+    elim (accepted x trail table text) [ true ↦ record { number = 0; place = 0 } | false ↦ record { number = 17; place = 0 } ]
+
+-- "a part of a sheet, lent to check or look-up, is over 32,768 bytes" is number 1
+unfoldable pub checkJob : List ℕ → List ℕ → List ℕ → List ℕ → List ℕ → Verdict
+unfolding inputs verdict
+checkJob document environment trail table text =
+    verdict trail table text
+    (inputs (leb (length trail) maxRoom && leb (length table) maxRoom && leb (length text) maxRoom) document environment)
+
+-- ---- "Look up: table, text and a path in; it hands back that part of the caller's own records which is the named value."
+
+-- where the part starts, and its size
+pub record Found : Type 0 where
+  pub number : ℕ
+  pub place : ℕ
+  pub start : ℕ
+  pub size : ℕ
+
+unfoldable pub notFound : Refusal → Found
+notFound x = record { number = numberOf x; place = placeOf x; start = 0; size = 0 }
+
+-- "path names nothing" is 16
+unfoldable pub foundAt : List ℕ → List ℕ → Option ℕ → Found
+unfolding afterValue notFound
+foundAt table text none = notFound (nowhere 16)
+foundAt table text (some at) =
+    elim (afterValue maxNesting table (length text) at) [
+      | none ↦ notFound spent
+      | some end ↦ record { number = 0; place = 0; start = at; size = end - at }
+    ]
+
+unfoldable pub lookedUp : List ℕ → List ℕ → Scan (List Text) → Found
+unfolding notFound foundAt valueNamed
+lookedUp table text (fail x) = notFound x
+lookedUp table text (ok path end) = foundAt table text (valueNamed table text path 0)
+
+-- "Look up: 1, 15, then 2 to 8 on the path text (6 is not given there), then 16."
+unfoldable pub lookUpJob : List ℕ → List ℕ → List ℕ → Found
+unfolding isWhole illFormed pathText notFound lookedUp
+lookUpJob table text path =
+    elim (leb (length table) maxRoom && leb (length text) maxRoom && leb (length path) maxPathText) [
+      | false ↦ notFound (nowhere 1)
+      | true ↦ elim (isWhole table (length text)) [
+        | false ↦ notFound (nowhere 15)
+        | true ↦ elim (illFormed path) [ some place ↦ notFound (placed 2 place) | none ↦ lookedUp table text (pathText path) ]
+      ]
+    ]

@@ -1,0 +1,87 @@
+-- Document 01, "The sheet": whole tables, and the part of a table that a path names.
+use Prim.Native.Nat.{ℕ, zero, suc, _+_, _-_, _*_}
+use mathlib.Core.List.{List, [], _∷_}
+use mathlib.Core.Bool.{Bool, true, false, _&&_, _||_}
+use mathlib.Core.Option.{Option, none, some}
+use lib.Dec.{leb, eqb}
+use lib.ListN.{length}
+use lib.Seq.{slice}
+use Rattle.rules.specs.Sizes.{maxNesting}
+use Rattle.rules.specs.Bytes.{Text, byteAt, within, same}
+
+-- two bytes as a number
+unfoldable pub pairAt : List ℕ → ℕ → ℕ
+pairAt s at = byteAt s at * 256 + byteAt s (at + 1)
+
+-- a record that refers to a text: of this kind, and "each text inside the lent text part"
+unfoldable pub afterText : List ℕ → ℕ → ℕ → ℕ → Option ℕ
+unfolding pairAt
+afterText table textLength kind at =
+    elim (leb (at + 5) (length table) && eqb (byteAt table at) kind && leb (pairAt table (at + 1) + pairAt table (at + 3)) textLength) [
+      | true ↦ some (at + 5)
+      | false ↦ none
+    ]
+
+-- so many members, one after the other; of an object each has its key first
+unfoldable pub afterMembers : Bool → (ℕ → Option ℕ) → List ℕ → ℕ → ℕ → ℕ → Option ℕ
+unfolding afterText
+afterMembers keyed after table textLength zero at = some at
+afterMembers keyed after table textLength (suc n) at =
+    let value : ℕ → Option ℕ = λ p. elim (after p) [ none ↦ none | some q ↦ afterMembers keyed after table textLength n q ] in
+    elim keyed [
+      | false ↦ value at
+      | true ↦ elim (afterText table textLength 8 at) [ none ↦ none | some p ↦ value p ]
+    ]
+
+-- A record that has no members: its end, or nothing where there is none whole; a container is handed on.
+unfoldable pub afterRecord : List ℕ → ℕ → ℕ → (Bool → Option ℕ) → Option ℕ
+unfolding afterText
+afterRecord table textLength at container =
+    let kind = byteAt table at in
+    elim (within 1 3 kind) [
+      | true ↦ some (at + 1)
+      | false ↦ elim (within 4 5 kind) [
+        | true ↦ afterText table textLength kind at
+        | false ↦ elim (within 6 7 kind && leb (at + 3) (length table)) [ true ↦ container (eqb kind 7) | false ↦ none ]
+      ]
+    ]
+
+-- "one record's end is found from the ends of those inside it"; the first number is how many containers may stand inside one another
+unfoldable pub afterValue : ℕ → List ℕ → ℕ → ℕ → Option ℕ
+unfolding afterRecord afterMembers pairAt
+afterValue zero table textLength at = afterRecord table textLength at (λ keyed. none)
+afterValue (suc levels) table textLength at =
+    afterRecord table textLength at (λ keyed.
+    afterMembers keyed (λ p. afterValue levels table textLength p) table textLength (pairAt table (at + 1)) (at + 3))
+
+-- "One whole table is one record of kind 1 to 7 with its members, nested at most 32, each text inside the lent text part, nothing after
+-- it; its texts need not be UTF-8."
+unfoldable pub isWhole : List ℕ → ℕ → Bool
+unfolding afterValue
+isWhole table textLength = elim (afterValue maxNesting table textLength 0) [ none ↦ false | some end ↦ eqb end (length table) ]
+
+-- the text that a record refers to
+unfoldable pub textAt : List ℕ → List ℕ → ℕ → Text
+unfolding pairAt
+textAt table text at = let offset = pairAt table (at + 1) in slice offset (offset + pairAt table (at + 3)) text
+
+-- "A lent table with equal keys answers by the first": the place of that key's value among so many members
+unfoldable pub memberFrom : ℕ → List ℕ → List ℕ → Text → ℕ → Option ℕ
+unfolding textAt afterValue same
+memberFrom zero table text key at = none
+memberFrom (suc n) table text key at =
+    elim (same (textAt table text at) key) [
+      | true ↦ some (at + 5)
+      | false ↦ elim (afterValue maxNesting table (length text) (at + 5)) [ none ↦ none | some q ↦ memberFrom n table text key q ]
+    ]
+
+unfoldable pub memberAt : List ℕ → List ℕ → Text → ℕ → Option ℕ
+unfolding memberFrom pairAt
+memberAt table text key at =
+    elim (eqb (byteAt table at) 7) [ true ↦ memberFrom (pairAt table (at + 1)) table text key (at + 3) | false ↦ none ]
+
+-- the place of the value that a path names, from a value on
+unfoldable pub valueNamed : List ℕ → List ℕ → List Text → ℕ → Option ℕ
+unfolding memberAt
+valueNamed table text [] at = some at
+valueNamed table text (k ∷ ks) at = elim (memberAt table text k at) [ none ↦ none | some p ↦ valueNamed table text ks p ]

@@ -1,0 +1,103 @@
+-- Document 01, "Reading": simple pieces. "Unquoted text runs up to whitespace, `//`, or one of ``$ " { } [ ] : = , + # ` ^ ? ! @ * & \``.
+-- If it starts with `true`, `false` or `null` that is a piece of its own. A digit or `-` starts the longest JSON number; the rest is
+-- read on as further pieces."
+use Prim.Native.Nat.{ℕ, _+_}
+use mathlib.Core.List.{List, [], _∷_}
+use mathlib.Core.Bool.{Bool, true, false, not, _||_}
+use mathlib.Core.Option.{Option, none, some}
+use lib.Dec.{eqb}
+use lib.ListN.{length}
+use lib.Seq.{slice}
+use Rattle.answers.specs.Ask.{mem}
+use Rattle.rules.specs.Bytes.{Text, byteAt, same, skip}
+use Rattle.rules.specs.Refusals.{Refusal, placed, Scan, ok, fail, andThen}
+use Rattle.rules.specs.Characters.{noCharacter, next, characterAt, isSpace, startsComment}
+use Rattle.rules.specs.Numbers.{isDigit, afterNumber}
+use Rattle.rules.specs.Strings.{quotedAt}
+use Rattle.rules.specs.Tree.{Scalar, null, boolean, number, string}
+
+-- `$ " { } [ ] : = , + # ` ^ ? ! @ * & \`
+abbrev pub forbidden : List ℕ
+forbidden = 36 ∷ 34 ∷ 123 ∷ 125 ∷ 91 ∷ 93 ∷ 58 ∷ 61 ∷ 44 ∷ 43 ∷ 35 ∷ 96 ∷ 94 ∷ 63 ∷ 33 ∷ 64 ∷ 42 ∷ 38 ∷ 92 ∷ []
+
+-- unquoted text goes no further than this place
+unfoldable pub stopsUnquoted : List ℕ → ℕ → Bool
+unfolding characterAt startsComment
+stopsUnquoted s at =
+    let c = characterAt s at in
+    elim (eqb c noCharacter || isSpace c) [
+      | true ↦ true
+      | false ↦ elim (mem c forbidden) [ true ↦ true | false ↦ startsComment s at ]
+    ]
+
+-- the place after unquoted text
+unfoldable pub unquotedEnd : List ℕ → ℕ → ℕ
+unfolding skip stopsUnquoted next
+unquotedEnd s at = skip (λ p. not (stopsUnquoted s p)) (next s) (length s) at
+
+-- a simple piece begins here
+unfoldable pub startsSimple : List ℕ → ℕ → Bool
+unfolding stopsUnquoted
+startsSimple s at = elim (eqb (byteAt s at) 34) [ true ↦ true | false ↦ not (stopsUnquoted s at) ]
+
+-- how a simple piece is written: in quotes, as unquoted text, or as a number or word of JSON's
+pub data Form : Type 0 where
+  quoted unquoted plain : Form
+
+pub record Token : Type 0 where
+  pub form : Form
+  pub scalar : Scalar
+
+abbrev pub token : Form → Scalar → Token
+token f x = record { form = f; scalar = x }
+
+abbrev pub wordTrue : Text
+wordTrue = 116 ∷ 114 ∷ 117 ∷ 101 ∷ []
+
+abbrev pub wordFalse : Text
+wordFalse = 102 ∷ 97 ∷ 108 ∷ 115 ∷ 101 ∷ []
+
+abbrev pub wordNull : Text
+wordNull = 110 ∷ 117 ∷ 108 ∷ 108 ∷ []
+
+-- the text begins at the place
+unfoldable pub startsWith : Text → List ℕ → ℕ → Bool
+unfolding same
+startsWith word s at = same (slice at (at + length word) s) word
+
+unfoldable pub unquotedAt : List ℕ → ℕ → Scan Token
+unfolding startsWith unquotedEnd
+unquotedAt s at =
+    elim (startsWith wordTrue s at) [
+      | true ↦ ok (token plain (boolean true)) (at + 4)
+      | false ↦ elim (startsWith wordFalse s at) [
+        | true ↦ ok (token plain (boolean false)) (at + 5)
+        | false ↦ elim (startsWith wordNull s at) [
+          | true ↦ ok (token plain null) (at + 4)
+          | false ↦ let end = unquotedEnd s at in ok (token unquoted (string (slice at end s))) end
+        ]
+      ]
+    ]
+
+-- number 5: "`-` starting no JSON number"
+unfoldable pub numberAt : List ℕ → ℕ → Scan Token
+unfolding afterNumber
+numberAt s at =
+    elim (afterNumber s at) [ none ↦ fail (placed 5 at) | some end ↦ ok (token plain (number (slice at end s))) end ]
+
+-- the simple piece at a place where one begins
+unfoldable pub simpleAt : List ℕ → ℕ → Scan Token
+unfolding quotedAt numberAt unquotedAt
+simpleAt s at =
+    elim (eqb (byteAt s at) 34) [
+      | true ↦ andThen (quotedAt s at) (λ t end. ok (token quoted (string t)) end)
+      | false ↦ elim (isDigit (byteAt s at) || eqb (byteAt s at) 45) [ true ↦ numberAt s at | false ↦ unquotedAt s at ]
+    ]
+
+-- the text of a simple value in a join, "numbers as written"
+unfoldable pub scalarText : Scalar → Text
+scalarText null = wordNull
+scalarText (boolean true) = wordTrue
+scalarText (boolean false) = wordFalse
+scalarText (number t) = t
+scalarText (string t) = t

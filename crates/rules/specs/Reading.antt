@@ -1,0 +1,345 @@
+-- Document 01, "Reading": values, arrays, objects and the whole document, with every refusal's number, place and order.
+use Prim.Native.Nat.{ℕ, zero, suc, _+_, _-_, min}
+use mathlib.Core.List.{List, [], _∷_, _++_}
+use mathlib.Core.Bool.{Bool, true, false, _&&_, _||_}
+use mathlib.Core.Option.{Option, none, some}
+use lib.Dec.{leb, ltb, eqb}
+use lib.ListN.{length}
+use lib.Seq.{slice}
+use Rattle.rules.specs.Sizes.{maxNesting, maxItems, maxPath, maxDocument}
+use Rattle.rules.specs.Bytes.{Text, byteAt}
+use Rattle.rules.specs.Refusals.{Refusal, placed, spent, Scan, ok, fail, Read, got, rejected, readThen, counting}
+use Rattle.rules.specs.Characters.{afterInline, Gap, gapAt, afterGap}
+use Rattle.rules.specs.Strings.{ended}
+use Rattle.rules.specs.Pieces.{Token, startsSimple, simpleAt, scalarText}
+use Rattle.rules.specs.Paths.{Segment, segmentsAt, Element, elementsOf, judge, keysOf, notAllowed, substitutionAt}
+use Rattle.rules.specs.Tree.{Scalar, string, Key, Substitution, Node, simple, array, object, unresolved, Elements, no-elements, element, Fields, no-fields, field, Pieces, no-pieces, literal, substituted, Root, fields, elements, joinElements, joinFields}
+
+-- ---- pieces
+
+-- what begins at a place of a value: "a `$` without `{`" starts no piece
+pub data Start : Type 0 where
+  brace bracket dollar scalar nothing : Start
+
+unfoldable pub startOf : List ℕ → ℕ → Start
+unfolding startsSimple
+startOf s at =
+    let b = byteAt s at in
+    elim (eqb b 123) [
+      | true ↦ brace
+      | false ↦ elim (eqb b 91) [
+        | true ↦ bracket
+        | false ↦ elim (eqb b 36) [
+          | true ↦ elim (eqb (byteAt s (at + 1)) 123) [ true ↦ dollar | false ↦ nothing ]
+          | false ↦ elim (startsSimple s at) [ true ↦ scalar | false ↦ nothing ]
+        ]
+      ]
+    ]
+
+-- what a piece is
+pub data Part : Type 0 where
+  node : Node → Part
+  substitution : Substitution → Part
+
+abbrev pub withPart : ℕ → Text → Part → Pieces → Pieces
+withPart place gap (node n) ps = literal place gap n ps
+withPart place gap (substitution x) ps = substituted gap x ps
+
+-- "A piece is counted before it is read"; an item more at a place, or number 8 there
+unfoldable pub counted : {A : Type 0} → ℕ → ℕ → (ℕ → Read A) → Read A
+counted items at k = elim (ltb items maxItems) [ true ↦ k (items + 1) | false ↦ rejected (placed 8 at) ]
+
+-- "A value is one or more pieces with no newline between. Whitespace between simple pieces is kept, outer whitespace dropped."
+-- The pieces from a place on; `from` is the end of the piece before.
+unfoldable pub piecesFrom : ℕ → (Start → ℕ → ℕ → Read Part) → List ℕ → ℕ → ℕ → ℕ → Read Pieces
+unfolding startOf counted afterInline
+piecesFrom zero pieceAt s from at items = rejected spent
+piecesFrom (suc n) pieceAt s from at items =
+    let more : Start → Read Pieces = λ start.
+    counted items at (λ items₁.
+    readThen (pieceAt start at items₁) (λ part end items₂.
+    readThen (piecesFrom n pieceAt s end (afterInline s end) items₂) (λ ps after items₃.
+    got (withPart at (slice from at s) part ps) after items₃))) in
+    elim (startOf s at) [
+      | brace ↦ more brace
+      | bracket ↦ more bracket
+      | dollar ↦ more dollar
+      | scalar ↦ more scalar
+      | nothing ↦ got no-pieces at items
+    ]
+
+-- ---- what pieces make
+
+pub data Kind : Type 0 where
+  simpleKind arrayKind objectKind : Kind
+
+-- of a piece, which is never unresolved itself
+unfoldable pub kindOf : Node → Kind
+kindOf (simple x) = simpleKind
+kindOf (array es) = arrayKind
+kindOf (object fs) = objectKind
+kindOf (unresolved b ps) = simpleKind
+
+unfoldable pub sameKind : Kind → Kind → Bool
+sameKind simpleKind simpleKind = true
+sameKind simpleKind arrayKind = false
+sameKind simpleKind objectKind = false
+sameKind arrayKind simpleKind = false
+sameKind arrayKind arrayKind = true
+sameKind arrayKind objectKind = false
+sameKind objectKind simpleKind = false
+sameKind objectKind arrayKind = false
+sameKind objectKind objectKind = true
+
+unfoldable pub hasSubstitution : Pieces → Bool
+hasSubstitution no-pieces = false
+hasSubstitution (literal place gap n ps) = hasSubstitution ps
+hasSubstitution (substituted gap x ps) = true
+
+-- number 11: the first piece unlike the first
+unfoldable pub unlike : Kind → Pieces → Option ℕ
+unfolding kindOf sameKind
+unlike k no-pieces = none
+unlike k (literal place gap n ps) = elim (sameKind k (kindOf n)) [ true ↦ unlike k ps | false ↦ some place ]
+unlike k (substituted gap x ps) = unlike k ps
+
+-- the text of simple pieces, the elements of arrays, the fields of objects, all in turn
+unfoldable pub textJoined : Pieces → Text
+unfolding scalarText
+textJoined no-pieces = []
+textJoined (literal place gap (simple x) ps) = gap ++ scalarText x ++ textJoined ps
+textJoined (literal place gap (array es) ps) = textJoined ps
+textJoined (literal place gap (object fs) ps) = textJoined ps
+textJoined (literal place gap (unresolved b qs) ps) = textJoined ps
+textJoined (substituted gap x ps) = textJoined ps
+
+unfoldable pub elementsJoined : Pieces → Elements
+unfolding joinElements
+elementsJoined no-pieces = no-elements
+elementsJoined (literal place gap (simple x) ps) = elementsJoined ps
+elementsJoined (literal place gap (array es) ps) = joinElements es (elementsJoined ps)
+elementsJoined (literal place gap (object fs) ps) = elementsJoined ps
+elementsJoined (literal place gap (unresolved b qs) ps) = elementsJoined ps
+elementsJoined (substituted gap x ps) = elementsJoined ps
+
+unfoldable pub fieldsJoined : Pieces → Fields
+unfolding joinFields
+fieldsJoined no-pieces = no-fields
+fieldsJoined (literal place gap (simple x) ps) = fieldsJoined ps
+fieldsJoined (literal place gap (array es) ps) = fieldsJoined ps
+fieldsJoined (literal place gap (object fs) ps) = joinFields fs (fieldsJoined ps)
+fieldsJoined (literal place gap (unresolved b qs) ps) = fieldsJoined ps
+fieldsJoined (substituted gap x ps) = fieldsJoined ps
+
+-- a simple piece alone keeps its type, several are a string
+unfoldable pub simpleJoined : Scalar → Pieces → Pieces → Node
+unfolding textJoined
+simpleJoined x all no-pieces = simple x
+simpleJoined x all (literal place gap n ps) = simple (string (textJoined all))
+simpleJoined x all (substituted gap y ps) = simple (string (textJoined all))
+
+-- "Without a substitution among its pieces, a value of several simple pieces is a string, of arrays their join, of objects one
+-- literal with all their fields in turn."
+unfoldable pub joined : Node → Pieces → Pieces → Node
+unfolding simpleJoined elementsJoined fieldsJoined
+joined (simple x) all rest = simpleJoined x all rest
+joined (array es) all rest = array (elementsJoined all)
+joined (object fs) all rest = object (fieldsJoined all)
+joined (unresolved b ps) all rest = unresolved b ps
+
+-- "A value with one is a blend"; its number is given later. Else kinds are compared: "A reading 11 is given at the end of its value".
+unfoldable pub judgeValue : Pieces → ℕ → ℕ → Read Node
+unfolding hasSubstitution unlike joined kindOf
+judgeValue no-pieces at items = rejected spent
+judgeValue (substituted gap x ps) at items = got (unresolved 0 (substituted gap x ps)) at items
+judgeValue (literal place gap n ps) at items =
+    elim (hasSubstitution ps) [
+      | true ↦ got (unresolved 0 (literal place gap n ps)) at items
+      | false ↦ elim (unlike (kindOf n) ps) [
+        | some other ↦ rejected (placed 11 other)
+        | none ↦ got (joined n (literal place gap n ps) ps) at items
+      ]
+    ]
+
+-- ---- fields and elements
+
+-- the byte that closes an object without braces is the end
+abbrev pub theEnd : ℕ
+theEnd = 256
+
+unfoldable pub afterClosing : ℕ → ℕ → ℕ
+afterClosing closing at = elim (eqb closing theEnd) [ true ↦ at | false ↦ at + 1 ]
+
+-- "Fields and elements are parted by one comma, or by at least one newline; one trailing comma is allowed, a leading or doubled one
+-- is not": the place where the next member or the closing byte may stand
+unfoldable pub parted : ℕ → List ℕ → ℕ → Scan ℕ
+unfolding gapAt
+parted closing s at =
+    let gap = gapAt s at in
+    let b = byteAt s (gap .place) in
+    elim (eqb b 44) [
+      | true ↦ ok (gap .place) (afterGap s (gap .place + 1))
+      | false ↦ elim (eqb b theEnd || eqb b closing || gap .newline) [
+        | true ↦ ok (gap .place) (gap .place)
+        | false ↦ fail (placed 3 (gap .place))
+      ]
+    ]
+
+-- the members from a place on where one, or the closing byte, may stand
+unfoldable pub membersFrom : {A : Type 0} → ℕ → ℕ → (ℕ → ℕ → Read A) → List ℕ → ℕ → ℕ → Read (List A)
+unfolding afterClosing parted
+membersFrom zero closing memberAt s at items = rejected spent
+membersFrom (suc n) closing memberAt s at items =
+    elim (eqb (byteAt s at) closing) [
+      | true ↦ got [] (afterClosing closing at) items
+      | false ↦ elim (eqb (byteAt s at) theEnd) [
+        | true ↦ rejected (ended s)
+        | false ↦
+            readThen (memberAt at items) (λ m end items₁.
+            readThen (counting items₁ (parted closing s end)) (λ comma after items₂.
+            readThen (membersFrom n closing memberAt s after items₂) (λ ms last items₃.
+            got (m ∷ ms) last items₃)))
+      ]
+    ]
+
+unfoldable pub membersAt : {A : Type 0} → ℕ → (ℕ → ℕ → Read A) → List ℕ → ℕ → ℕ → Read (List A)
+unfolding membersFrom gapAt
+membersAt closing memberAt s at items = membersFrom (suc (length s)) closing memberAt s (afterGap s at) items
+
+-- "`a.b = 1` means `a { b = 1 }`."
+pub record Member : Type 0 where
+  pub key : Key
+  pub value : Node
+
+unfoldable pub expanded : Key → List Key → Node → Member
+expanded k [] n = record { key = k; value = n }
+expanded k (j ∷ js) n = let m = expanded j js n in record { key = k; value = object (field (m .key) (m .value) no-fields) }
+
+unfoldable pub fieldsOf : List Member → Fields
+fieldsOf [] = no-fields
+fieldsOf (m ∷ ms) = field (m .key) (m .value) (fieldsOf ms)
+
+unfoldable pub elementsFrom : List Node → Elements
+elementsFrom [] = no-elements
+elementsFrom (n ∷ ns) = element n (elementsFrom ns)
+
+-- ---- the readers of value, array and object; `valueAt nesting place items` reads a value inside a container of that nesting
+
+-- "`:` or `=` parts key and value; before `{` it may be absent. Newlines and comments may stand between key and value."
+unfoldable pub valuePlace : List ℕ → ℕ → Scan ℕ
+unfolding gapAt notAllowed
+valuePlace s at =
+    let p = afterGap s at in
+    elim (eqb (byteAt s p) 58 || eqb (byteAt s p) 61) [
+      | true ↦ ok p (afterGap s (p + 1))
+      | false ↦ elim (eqb (byteAt s p) 123) [ true ↦ ok p p | false ↦ fail (notAllowed s p) ]
+    ]
+
+-- "Each key element after the first opens one nesting", and each element is an item
+abbrev pub allowedKeys : ℕ → ℕ → ℕ
+allowedKeys nesting items = min maxPath (min (maxItems - items) (maxNesting + 1 - nesting))
+
+-- a container's opening byte inside a given nesting: one nesting more, or number 8 there
+unfoldable pub opened : {A : Type 0} → ℕ → ℕ → (ℕ → Read A) → Read A
+opened nesting at k = elim (ltb nesting maxNesting) [ true ↦ k (nesting + 1) | false ↦ rejected (placed 8 at) ]
+
+module _ (valueAt : ℕ → ℕ → ℕ → Read Node) where
+  -- a field's key is judged before what follows it
+  unfoldable pub fieldWith : List ℕ → ℕ → ℕ → ℕ → List Key → Read Member
+  unfolding valuePlace expanded
+  fieldWith s nesting at items [] = rejected spent
+  fieldWith s nesting at items (k ∷ ks) =
+      readThen (counting (items + suc (length ks)) (valuePlace s at)) (λ p place items₁.
+      readThen (valueAt (nesting + length ks) place items₁) (λ n end items₂.
+      got (expanded k ks n) end items₂))
+
+  unfoldable pub fieldJudged : List ℕ → ℕ → ℕ → ℕ → List Element → Option Refusal → Read Member
+  unfolding fieldWith
+  fieldJudged s nesting at items es (some x) = rejected x
+  fieldJudged s nesting at items es none = fieldWith s nesting at items (keysOf es)
+
+  -- "A key that starts with no piece is 3"
+  unfoldable pub fieldAt : List ℕ → ℕ → ℕ → ℕ → Read Member
+  unfolding fieldJudged segmentsAt elementsOf judge
+  fieldAt s nesting at items =
+      readThen (counting items (segmentsAt true s at)) (λ gs end items₁.
+      elim gs [
+        | [] ↦ rejected (placed 3 end)
+        | g ∷ rest ↦
+            let es = elementsOf (g ∷ rest) in
+            fieldJudged s nesting end items₁ es (judge at (allowedKeys nesting items₁) es)
+      ])
+
+  -- "An element is counted with its first piece"
+  unfoldable pub elementAt : List ℕ → ℕ → ℕ → ℕ → Read Node
+  unfolding counted startOf notAllowed
+  elementAt s nesting at items =
+      elim (startOf s at) [
+        | brace ↦ counted items at (valueAt nesting at)
+        | bracket ↦ counted items at (valueAt nesting at)
+        | dollar ↦ counted items at (valueAt nesting at)
+        | scalar ↦ counted items at (valueAt nesting at)
+        | nothing ↦ rejected (notAllowed s at)
+      ]
+
+  -- behind the opening byte of a container that opens the given nesting
+  unfoldable pub arrayAt : List ℕ → ℕ → ℕ → ℕ → Read Elements
+  unfolding elementAt membersAt elementsFrom
+  arrayAt s nesting at items =
+      readThen (membersAt 93 (elementAt s nesting) s at items) (λ ns end items₁. got (elementsFrom ns) end items₁)
+
+  unfoldable pub objectAt : ℕ → List ℕ → ℕ → ℕ → ℕ → Read Fields
+  unfolding fieldAt membersAt fieldsOf
+  objectAt closing s nesting at items =
+      readThen (membersAt closing (fieldAt s nesting) s at items) (λ ms end items₁. got (fieldsOf ms) end items₁)
+
+  unfoldable pub pieceAt : List ℕ → ℕ → Start → ℕ → ℕ → Read Part
+  unfolding opened arrayAt objectAt substitutionAt simpleAt
+  pieceAt s nesting brace at items =
+      opened nesting at (λ inner.
+      readThen (objectAt 125 s inner (at + 1) items) (λ fs end items₁. got (node (object fs)) end items₁))
+  pieceAt s nesting bracket at items =
+      opened nesting at (λ inner.
+      readThen (arrayAt s inner (at + 1) items) (λ es end items₁. got (node (array es)) end items₁))
+  pieceAt s nesting dollar at items =
+      readThen (counting items (substitutionAt s at)) (λ x end items₁. got (substitution x) end items₁)
+  pieceAt s nesting scalar at items =
+      readThen (counting items (simpleAt s at)) (λ t end items₁. got (node (simple (t .scalar))) end items₁)
+  pieceAt s nesting nothing at items = rejected spent
+
+-- A value in a container of the given nesting. The first number is how many containers more may be opened, one inside the other: at
+-- most 32, so the recursion goes by it.
+unfoldable pub valueFrom : ℕ → List ℕ → ℕ → ℕ → ℕ → Read Node
+unfolding startOf piecesFrom pieceAt judgeValue notAllowed
+valueFrom zero s nesting at items = rejected spent
+valueFrom (suc depth) s nesting at items =
+    let pieces : Read Node =
+    readThen (piecesFrom (suc (length s)) (pieceAt (valueFrom depth s) s nesting) s at at items) judgeValue in
+    elim (startOf s at) [
+      | brace ↦ pieces
+      | bracket ↦ pieces
+      | dollar ↦ pieces
+      | scalar ↦ pieces
+      | nothing ↦ rejected (notAllowed s at)
+    ]
+
+-- "Root, after whitespace and comments: `{` or `[` and its partner, then only whitespace and comments; else an object without braces,
+-- possibly empty."
+unfoldable pub rootAt : List ℕ → ℕ → Read Root
+unfolding valueFrom arrayAt objectAt
+rootAt s at =
+    let inside = valueFrom maxNesting s in
+    elim (eqb (byteAt s at) 123) [
+      | true ↦ readThen (objectAt inside 125 s 1 (at + 1) 0) (λ fs end items. got (fields fs) end items)
+      | false ↦ elim (eqb (byteAt s at) 91) [
+        | true ↦ readThen (arrayAt inside s 1 (at + 1) 0) (λ es end items. got (elements es) end items)
+        | false ↦ readThen (objectAt inside theEnd s 1 at 0) (λ fs end items. got (fields fs) end items)
+      ]
+    ]
+
+unfoldable pub readRoot : List ℕ → Read Root
+unfolding rootAt gapAt
+readRoot s =
+    readThen (rootAt s (afterGap s 0)) (λ r end items.
+    let last = afterGap s end in
+    elim (ltb last (length s)) [ true ↦ rejected (placed 3 last) | false ↦ got r last items ])

@@ -1,0 +1,160 @@
+-- Document 01, "Reading": "Quoted strings are JSON's. Triple quotes take everything raw; the first later run of three or more quotes
+-- ends them, and all but its last three belong to the string." Number 5: "bad escape or lone surrogate (no well-formed mate next);
+-- control byte in a quoted string", at the first byte of the escape or control; "an escape or surrogate pair cut by the end 4".
+use Prim.Native.Nat.{ℕ, zero, suc, _+_, _-_, _*_}
+use mathlib.Core.List.{List, [], _∷_, _++_}
+use mathlib.Core.Bool.{Bool, true, false, not, _&&_, _||_}
+use mathlib.Core.Option.{Option, none, some}
+use lib.Dec.{leb, ltb, eqb}
+use lib.ListN.{length, take, drop}
+use lib.Seq.{slice}
+use Rattle.rules.specs.Bytes.{Text, byteAt, within, skip}
+use Rattle.rules.specs.Refusals.{Refusal, placed, spent, Scan, ok, fail, andThen}
+use Rattle.rules.specs.Utf8.{encoded}
+use Rattle.rules.specs.Characters.{next}
+
+-- the end stands here: number 4 at the length
+abbrev pub ended : List ℕ → Refusal
+ended s = placed 4 (length s)
+
+-- the value of a hexadecimal digit
+unfoldable pub hexDigit : ℕ → Option ℕ
+hexDigit b =
+    elim (within 48 57 b) [
+      | true ↦ some (b - 48)
+      | false ↦ elim (within 65 70 b) [
+        | true ↦ some (b - 55)
+        | false ↦ elim (within 97 102 b) [ true ↦ some (b - 87) | false ↦ none ]
+      ]
+    ]
+
+-- so many hexadecimal digits more, behind the value so far; `first` is the place of the escape
+unfoldable pub hexFrom : ℕ → List ℕ → ℕ → ℕ → ℕ → Scan ℕ
+unfolding hexDigit
+hexFrom zero s first so-far at = ok so-far at
+hexFrom (suc n) s first so-far at =
+    elim (leb (length s) at) [
+      | true ↦ fail (ended s)
+      | false ↦ elim (hexDigit (byteAt s at)) [ none ↦ fail (placed 5 first) | some d ↦ hexFrom n s first (so-far * 16 + d) (at + 1) ]
+    ]
+
+-- one certain byte
+unfoldable pub expect : ℕ → List ℕ → ℕ → ℕ → Scan ℕ
+expect b s first at =
+    elim (leb (length s) at) [
+      | true ↦ fail (ended s)
+      | false ↦ elim (eqb (byteAt s at) b) [ true ↦ ok b (at + 1) | false ↦ fail (placed 5 first) ]
+    ]
+
+abbrev pub isHigh : ℕ → Bool
+isHigh unit = within 55296 56319 unit
+
+abbrev pub isLow : ℕ → Bool
+isLow unit = within 56320 57343 unit
+
+-- a surrogate pair's character
+abbrev pub paired : ℕ → ℕ → ℕ
+paired high low = 65536 + (high - 55296) * 1024 + (low - 56320)
+
+-- the mate of a high surrogate: `\u` and four digits that give a low one
+unfoldable pub mateOf : List ℕ → ℕ → ℕ → ℕ → Scan Text
+unfolding expect hexFrom encoded
+mateOf s first high at =
+    andThen (expect 92 s first at) (λ b p.
+    andThen (expect 117 s first p) (λ c q.
+    andThen (hexFrom 4 s first 0 q) (λ low end.
+    elim (isLow low) [ true ↦ ok (encoded (paired high low)) end | false ↦ fail (placed 5 first) ])))
+
+-- behind `\u`
+unfoldable pub unicodeEscape : List ℕ → ℕ → ℕ → Scan Text
+unfolding hexFrom mateOf encoded
+unicodeEscape s first at =
+    andThen (hexFrom 4 s first 0 at) (λ unit p.
+    elim (isLow unit) [
+      | true ↦ fail (placed 5 first)
+      | false ↦ elim (isHigh unit) [ true ↦ mateOf s first unit p | false ↦ ok (encoded unit) p ]
+    ])
+
+-- what a one-letter escape stands for
+unfoldable pub letterEscape : ℕ → Option ℕ
+letterEscape b =
+    elim (eqb b 34 || eqb b 92 || eqb b 47) [
+      | true ↦ some b
+      | false ↦ elim (eqb b 98) [
+        | true ↦ some 8
+        | false ↦ elim (eqb b 102) [
+          | true ↦ some 12
+          | false ↦ elim (eqb b 110) [
+            | true ↦ some 10
+            | false ↦ elim (eqb b 114) [ true ↦ some 13 | false ↦ elim (eqb b 116) [ true ↦ some 9 | false ↦ none ] ]
+          ]
+        ]
+      ]
+    ]
+
+-- the escape that begins at a place
+unfoldable pub escapeAt : List ℕ → ℕ → Scan Text
+unfolding letterEscape unicodeEscape
+escapeAt s at =
+    elim (leb (length s) (at + 1)) [
+      | true ↦ fail (ended s)
+      | false ↦ elim (letterEscape (byteAt s (at + 1))) [
+        | some b ↦ ok (b ∷ []) (at + 2)
+        | none ↦ elim (eqb (byteAt s (at + 1)) 117) [ true ↦ unicodeEscape s at (at + 2) | false ↦ fail (placed 5 at) ]
+      ]
+    ]
+
+abbrev pub prepend : Text → Scan Text → Scan Text
+prepend t (ok u at) = ok (t ++ u) at
+prepend t (fail x) = fail x
+
+-- a quoted string's text from a place behind its first quote on
+unfoldable pub bodyFrom : ℕ → List ℕ → ℕ → Scan Text
+unfolding escapeAt next
+bodyFrom zero s at = fail spent
+bodyFrom (suc n) s at =
+    elim (leb (length s) at) [
+      | true ↦ fail (ended s)
+      | false ↦ elim (eqb (byteAt s at) 34) [
+        | true ↦ ok [] (at + 1)
+        | false ↦ elim (ltb (byteAt s at) 32) [
+          | true ↦ fail (placed 5 at)
+          | false ↦ elim (eqb (byteAt s at) 92) [
+            | true ↦ andThen (escapeAt s at) (λ t p. prepend t (bodyFrom n s p))
+            | false ↦ prepend (slice at (next s at) s) (bodyFrom n s (next s at))
+          ]
+        ]
+      ]
+    ]
+
+-- three quotes stand here
+unfoldable pub threeQuotes : List ℕ → ℕ → Bool
+threeQuotes s at =
+    elim (eqb (byteAt s at) 34) [
+      | true ↦ elim (eqb (byteAt s (at + 1)) 34) [ true ↦ eqb (byteAt s (at + 2)) 34 | false ↦ false ]
+      | false ↦ false
+    ]
+
+-- where the first run of three quotes or more begins, or the end
+unfoldable pub quotesRun : List ℕ → ℕ → ℕ
+unfolding skip threeQuotes next
+quotesRun s at = skip (λ p. ltb p (length s) && not (threeQuotes s p)) (next s) (length s) at
+
+-- the place after a run of quotes
+unfoldable pub afterQuotes : List ℕ → ℕ → ℕ
+unfolding skip
+afterQuotes s at = skip (λ p. eqb (byteAt s p) 34) (λ p. p + 1) (length s) at
+
+unfoldable pub tripleAt : List ℕ → ℕ → Scan Text
+unfolding quotesRun afterQuotes
+tripleAt s at =
+    let run = quotesRun s (at + 3) in
+    elim (ltb run (length s)) [
+      | false ↦ fail (ended s)
+      | true ↦ let end = afterQuotes s run in ok (slice (at + 3) (end - 3) s) end
+    ]
+
+-- the string, quoted once or three times, that begins at a place
+unfoldable pub quotedAt : List ℕ → ℕ → Scan Text
+unfolding threeQuotes tripleAt bodyFrom
+quotedAt s at = elim (threeQuotes s at) [ true ↦ tripleAt s at | false ↦ bodyFrom (suc (length s)) s (at + 1) ]
