@@ -1,15 +1,3 @@
 pub mod Ask
 pub mod Resolve
-pub mod Holds
-pub mod Sound
-pub mod Fuel
-pub mod Bind
-pub mod Complete
-pub mod Reorder
-pub mod Machine
-pub mod Mono
-pub mod Env
-pub mod Budget
-pub mod Invariant
-pub mod InOrder
-pub mod Examples
+pub mod Theory

@@ -6,10 +6,10 @@ use mathlib.Core.Option.{Option, none, some}
 use mathlib.Core.Logic.{inl, inr}
 use Rattle.answers.specs.Ask.{Ask, done, refuse, need, value, refused, given, run, Trail, lookup}
 use Rattle.answers.specs.Resolve.{Rules, Res, stop, bar, resolve, machine, Laid}
-use Rattle.answers.specs.Holds.{Holds, answers, dries, of-stop, after-holds, laid-holds, react-holds, unless-holds}
-use Rattle.answers.specs.Sound.{clash, All, lookup-cases, bar-some}
-use Rattle.answers.specs.Fuel.{Below, Closed}
-use Rattle.answers.specs.Machine.{run-missing, machine-resolves}
+use Rattle.answers.specs.Theory.Holds.{Holds, answers, dries, of-stop, after-holds, laid-holds, react-holds, unless-holds}
+use Rattle.answers.specs.Theory.Sound.{clash, All, lookup-cases, bar-some}
+use Rattle.answers.specs.Theory.Fuel.{Below, Closed}
+use Rattle.answers.specs.Theory.Machine.{run-missing, machine-resolves}
 
 -- a run sees only what is known
 pub run-cong : {F R A : Type 0} (known known′ : ℕ → Option R) → ((q : ℕ) → known q ≡ known′ q) → (t : Ask F R A) → run known t ≡ run known′ t

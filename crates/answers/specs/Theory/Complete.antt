@@ -10,10 +10,10 @@ use native.Mathlib.Omega.{arith}
 use borrow.Author.Tests.{ne-eqb, lt-ltb}
 use Rattle.answers.specs.Ask.{Ask, done, refuse, need, value, run, Trail, lookup, mem, Once}
 use Rattle.answers.specs.Resolve.{Rules, Res, answer, stop, walk, bar, worked, resolve, Laid, Accepts}
-use Rattle.answers.specs.Holds.{Handler, answers, Fully, after-holds, lay-holds, enter-holds, full-answer, wet-stops}
-use Rattle.answers.specs.Sound.{clash, Within, lookup-other, lookup-cases, lookup-keeps, mem-new, mem-cases, mem-more, run-inv}
-use Rattle.answers.specs.Sound.{accepted, fitting}
-use Rattle.answers.specs.Fuel.{free-le, idle, idle-drop, begun, left, left-begin, left-lay, Below, Closed, resolve-wet}
+use Rattle.answers.specs.Theory.Holds.{Handler, answers, Fully, after-holds, lay-holds, enter-holds, full-answer, wet-stops}
+use Rattle.answers.specs.Theory.Sound.{clash, Within, lookup-other, lookup-cases, lookup-keeps, mem-new, mem-cases, mem-more, run-inv}
+use Rattle.answers.specs.Theory.Sound.{accepted, fitting}
+use Rattle.answers.specs.Theory.Fuel.{free-le, idle, idle-drop, begun, left, left-begin, left-lay, Below, Closed, resolve-wet}
 
 -- what lies within a trail that fits, fits
 abbrev pub Shrinks : {F R : Type 0} → Rules F R → Type 0

@@ -8,9 +8,9 @@ use lib.Dec.{leb}
 use lib.ListN.{length}
 use Rattle.answers.specs.Ask.{Ask, done, refuse, need, Trail}
 use Rattle.answers.specs.Resolve.{Rules, answer, stop, resolve, machine, Accepts}
-use Rattle.answers.specs.Fuel.{Closed}
-use Rattle.answers.specs.Complete.{refuses-iff}
-use Rattle.answers.specs.Budget.{exact}
+use Rattle.answers.specs.Theory.Fuel.{Closed}
+use Rattle.answers.specs.Theory.Complete.{refuses-iff}
+use Rattle.answers.specs.Theory.Budget.{exact}
 
 data Why : Type 0 where
   circle : ℕ → Why

@@ -8,9 +8,9 @@ use native.Mathlib.Omega.{arith}
 use lib.ListN.{length}
 use Rattle.answers.specs.Ask.{Ask, done, refuse, need, Out, value, refused, missing, given, run, Trail, lookup, mem}
 use Rattle.answers.specs.Resolve.{Rules, Res, answer, stop, dry, after, walk, react, unless, bar, lay, worked, resolve, machine}
-use Rattle.answers.specs.Holds.{Handler, after-cong}
-use Rattle.answers.specs.Sound.{clash, bar-none, Handles, worked-step}
-use Rattle.answers.specs.Fuel.{free-le, idle, idle-drop, begun, left, left-begin, left-lay, Below, Closed}
+use Rattle.answers.specs.Theory.Holds.{Handler, after-cong}
+use Rattle.answers.specs.Theory.Sound.{clash, bar-none, Handles, worked-step}
+use Rattle.answers.specs.Theory.Fuel.{free-le, idle, idle-drop, begun, left, left-begin, left-lay, Below, Closed}
 
 -- ---- the laws of `react` and `lay`
 

@@ -5,9 +5,9 @@ use mathlib.Core.List.{List, [], _∷_}
 use mathlib.Core.Option.{Option, none, some}
 use Rattle.answers.specs.Ask.{Ask, value, run, Trail, lookup}
 use Rattle.answers.specs.Resolve.{Rules, Res, unless, bar, resolve, machine}
-use Rattle.answers.specs.Sound.{All}
-use Rattle.answers.specs.Fuel.{Below, Closed}
-use Rattle.answers.specs.Machine.{react-cong, lay-cong, run-missing, machine-resolves}
+use Rattle.answers.specs.Theory.Sound.{All}
+use Rattle.answers.specs.Theory.Fuel.{Below, Closed}
+use Rattle.answers.specs.Theory.Machine.{react-cong, lay-cong, run-missing, machine-resolves}
 
 -- the same refusals of the order, and the same room
 pub record SameOrder {F R : Type 0} (ρ ρ′ : Rules F R) : Type 0 where

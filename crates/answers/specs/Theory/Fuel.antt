@@ -9,8 +9,8 @@ use lib.Dec.{eqb}
 use borrow.Author.Tests.{eqb-true, eqb-false, eq-eqb}
 use Rattle.answers.specs.Ask.{Ask, done, refuse, need, Trail, lookup, mem}
 use Rattle.answers.specs.Resolve.{Rules, Res, walk, bar, worked, resolve}
-use Rattle.answers.specs.Holds.{Handler, answers, stops, Wet, after-holds, lay-holds, enter-holds}
-use Rattle.answers.specs.Sound.{clash, bar-none, mem-new, mem-more}
+use Rattle.answers.specs.Theory.Holds.{Handler, answers, stops, Wet, after-holds, lay-holds, enter-holds}
+use Rattle.answers.specs.Theory.Sound.{clash, bar-none, mem-new, mem-more}
 
 -- ---- how many numbers below N have not p
 

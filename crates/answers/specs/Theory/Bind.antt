@@ -4,8 +4,8 @@ use Prim.Native.Nat.{ℕ}
 use mathlib.Core.List.{List, [], _∷_, _++_}
 use mathlib.Core.Option.{Option, none, some}
 use Rattle.answers.specs.Ask.{Ask, done, refuse, need, bind, Out, value, refused, missing, given, run, taken, needs}
-use Rattle.answers.specs.Sound.{clash}
-use Rattle.answers.specs.Fuel.{Below}
+use Rattle.answers.specs.Theory.Sound.{clash}
+use Rattle.answers.specs.Theory.Fuel.{Below}
 
 pub bind-done : {F R A : Type 0} (m : Ask F R A) → bind m done ≡ m
 bind-done (done a) = refl

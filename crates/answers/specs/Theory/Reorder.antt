@@ -7,8 +7,8 @@ use mathlib.Core.Option.{Option, none, some}
 use mathlib.Core.Logic.{inl, inr}
 use Rattle.answers.specs.Ask.{Ask, done, refuse, need, value, run, needs, Trail, lookup, Once}
 use Rattle.answers.specs.Resolve.{Rules, Laid, Accepts}
-use Rattle.answers.specs.Sound.{clash, All, Within, lookup-new, lookup-cases, lookup-keeps, run-inv, run-keeps}
-use Rattle.answers.specs.Fuel.{has}
+use Rattle.answers.specs.Theory.Sound.{clash, All, Within, lookup-new, lookup-cases, lookup-keeps, run-inv, run-keeps}
+use Rattle.answers.specs.Theory.Fuel.{has}
 
 -- S′ holds S's entries in some order
 pub record Reorders {R : Type 0} (S S′ : Trail R) : Type 0 where

@@ -12,7 +12,7 @@ use lib.Dec.{eqb, ltb}
 use borrow.Author.Tests.{ltb-true, eqb-true, eq-eqb, ne-eqb}
 use Rattle.answers.specs.Ask.{Ask, done, refuse, need, value, given, run, Trail, lookup, mem}
 use Rattle.answers.specs.Resolve.{Rules, Res, answer, walk, bar, Laid, Accepts, worked, resolve}
-use Rattle.answers.specs.Holds.{Handler, answers, stops, dries, Partly, of-answer, holds-map, after-holds, lay-holds, enter-holds}
+use Rattle.answers.specs.Theory.Holds.{Handler, answers, stops, dries, Partly, of-answer, holds-map, after-holds, lay-holds, enter-holds}
 
 -- where two different constructors are equal, anything is: `clash (cc)`
 pub clash : {A : Type 0} → _≡_ {A = ℕ} 0 1 → A

@@ -10,7 +10,7 @@ use lib.Dec.{ltb}
 use borrow.Author.Tests.{ltb-true, lt-ltb}
 use Rattle.answers.specs.Ask.{Ask, done, refuse, need, Trail, lookup, mem}
 use Rattle.answers.specs.Resolve.{Rules, Res, answer, stop, dry, after, walk, enter, bar, lay, worked, resolve}
-use Rattle.answers.specs.Holds.{Handler}
+use Rattle.answers.specs.Theory.Holds.{Handler}
 
 module _ {F R : Type 0} (ρ : Rules F R) where
   -- a question would have begun past the budget

@@ -10,8 +10,8 @@ use lib.Dec.{eqb}
 use borrow.Author.Tests.{eqb-true, eq-eqb}
 use Rattle.answers.specs.Ask.{Ask, value, run, Trail, lookup}
 use Rattle.answers.specs.Resolve.{Rules, Laid, Accepts}
-use Rattle.answers.specs.Sound.{clash}
-use Rattle.answers.specs.Invariant.{run-cong}
+use Rattle.answers.specs.Theory.Sound.{clash}
+use Rattle.answers.specs.Theory.Invariant.{run-cong}
 
 module _ {F R : Type 0} (ρ : Rules F R) where
   -- after the entries P, each entry of T is new, and its answer is what its rules give from those before it

@@ -12,12 +12,12 @@ use lib.Dec.{eqb, leb}
 use borrow.Author.Tests.{lt-ltb, leb-true, le-leb, eqb-true}
 use Rattle.answers.specs.Ask.{Ask, done, refuse, need, value, run, Trail, lookup, Once}
 use Rattle.answers.specs.Resolve.{Rules, Res, answer, stop, walk, bar, worked, resolve, Laid, Accepts}
-use Rattle.answers.specs.Holds.{Handler, answers, stops, dries, Partly, of-answer, holds-map, after-holds, lay-holds, enter-holds, wet-stops}
-use Rattle.answers.specs.Sound.{clash, Within, lookup-new, lookup-other, lookup-cases, lookup-keeps, run-inv, bar-none}
-use Rattle.answers.specs.Sound.{count, accepted, affordable, fitting}
-use Rattle.answers.specs.Fuel.{Below, Closed, resolve-wet}
-use Rattle.answers.specs.Complete.{Shrinks, complete}
-use Rattle.answers.specs.Reorder.{laid-runs}
+use Rattle.answers.specs.Theory.Holds.{Handler, answers, stops, dries, Partly, of-answer, holds-map, after-holds, lay-holds, enter-holds, wet-stops}
+use Rattle.answers.specs.Theory.Sound.{clash, Within, lookup-new, lookup-other, lookup-cases, lookup-keeps, run-inv, bar-none}
+use Rattle.answers.specs.Theory.Sound.{count, accepted, affordable, fitting}
+use Rattle.answers.specs.Theory.Fuel.{Below, Closed, resolve-wet}
+use Rattle.answers.specs.Theory.Complete.{Shrinks, complete}
+use Rattle.answers.specs.Theory.Reorder.{laid-runs}
 
 -- ---- another budget
 
