@@ -18,3 +18,5 @@ pub mod Sheet
 pub mod Checking
 pub mod LookUp
 pub mod Jobs
+pub mod Cases
+pub mod Examples
