@@ -1,7 +1,7 @@
 -- Document 01, "Reading": "A reading place goes forward one character at a time. Whitespace is bytes 09 to 0D, 1C to 1F, 20; newline
 -- is 0A only. Any other character is ordinary. A comment runs from `#` or `//` up to the newline."
 -- The text that is read is well-formed UTF-8 (number 2 comes first).
-use Prim.Native.Nat.{ℕ, zero, suc, _+_, _*_, _%_}
+use Prim.Native.Nat.{ℕ, zero, suc, _+_, _*_, _%_, min, max}
 use mathlib.Core.List.{List}
 use mathlib.Core.Bool.{Bool, true, false, not, _&&_, _||_}
 use lib.Dec.{ltb, eqb}
@@ -25,6 +25,10 @@ unfoldable pub next : List ℕ → ℕ → ℕ
 unfolding widthOf
 next s at = at + widthOf (byteAt s at)
 
+-- A character of several bytes is from U+0080 to U+10FFFF. Of well-formed bytes that goes without saying; so it holds of any.
+abbrev pub ofSeveral : ℕ → ℕ
+ofSeveral c = min 1114111 (max 128 c)
+
 -- the character at a place, as its code point
 unfoldable pub characterAt : List ℕ → ℕ → ℕ
 characterAt s at =
@@ -32,11 +36,13 @@ characterAt s at =
     elim (ltb lead 128) [
       | true ↦ lead
       | false ↦ elim (ltb lead 224) [
-        | true ↦ lead % 32 * 64 + byteAt s (at + 1) % 64
+        | true ↦ ofSeveral (lead % 32 * 64 + byteAt s (at + 1) % 64)
         | false ↦ elim (ltb lead 240) [
-          | true ↦ lead % 16 * 4096 + byteAt s (at + 1) % 64 * 64 + byteAt s (at + 2) % 64
+          | true ↦ ofSeveral (lead % 16 * 4096 + byteAt s (at + 1) % 64 * 64 + byteAt s (at + 2) % 64)
           | false ↦ elim (ltb lead 256) [
-            | true ↦ lead % 8 * 262144 + byteAt s (at + 1) % 64 * 4096 + byteAt s (at + 2) % 64 * 64 + byteAt s (at + 3) % 64
+            | true ↦
+                ofSeveral
+                (lead % 8 * 262144 + byteAt s (at + 1) % 64 * 4096 + byteAt s (at + 2) % 64 * 64 + byteAt s (at + 3) % 64)
             | false ↦ noCharacter
           ]
         ]
