@@ -196,7 +196,7 @@ module _ (eval : Layers → Work Answer) where
   countedValue (merged os) = bind (mergedOf os) (λ v. done (some v))
 
 -- The value of a path, from its layers. The depth bounds how far values go down inside one another, and is never used up (module
--- Enough).
+-- Resolving of Theory).
 unfoldable pub valueOf : ℕ → Layers → Work Answer
 unfolding gather countedValue
 valueOf zero ls = refuse spent

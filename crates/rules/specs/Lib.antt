@@ -16,7 +16,9 @@ pub mod Unresolved
 pub mod Documents
 pub mod Sheet
 pub mod Checking
+pub mod Meaning
 pub mod LookUp
 pub mod Jobs
 pub mod Cases
 pub mod Examples
+pub mod Theory

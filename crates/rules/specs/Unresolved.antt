@@ -164,10 +164,10 @@ joinPiece place gap (some v) j =
 -- ---- the rules of one unresolved value
 
 module _ (root : Root) (env : Environment) where
-  -- containers of the document, then those of an answer, and one step more
+  -- how far values may go down inside one another: through the containers of the document, then those of an answer, at most 32
   abbrev pub depthOf : ℕ
   unfolding heightOf
-  depthOf = heightOf (rootNode root) + 34
+  depthOf = heightOf (rootNode root) + 33
 
   abbrev pub evaluate : Layers → Work Answer
   unfolding heightOf valueOf

@@ -1,0 +1,23 @@
+-- What is proved of the definitions.
+
+-- reading: it never runs out of fuel, and gives only its own numbers
+pub mod Choices
+pub mod Skips
+pub mod Places
+pub mod Scanning
+pub mod PathsEnd
+pub mod PiecesEnd
+pub mod ReadingEnds
+-- resolving: what is needed has a number, and values end
+pub mod Numbering
+pub mod Ends
+pub mod Reach
+pub mod Rules
+pub mod Resolving
+-- the sheet: its layout, read back; what is accepted
+pub mod Layout
+pub mod Entries
+pub mod Fits
+pub mod SameMeaning
+pub mod ReadBack
+pub mod Accepted

@@ -1,0 +1,190 @@
+-- Reading a document never runs out of fuel: every value goes forward, and the nesting bounds how deep values stand. So no document is
+-- refused by `spent`: a refusal of the inputs has one of the paper's numbers.
+use mathlib.Core.Path.{_≡_, refl}
+use Prim.Native.Nat.{ℕ, zero, suc, _+_, _≤_, _<_}
+use mathlib.Core.Bool.{Bool, true, _&&_, _||_}
+use mathlib.Core.List.{List, [], _∷_}
+use mathlib.Core.Option.{Option}
+use native.Mathlib.Omega.{arith}
+use lib.Dec.{leb, ltb, eqb}
+use lib.ListN.{length, getElem?, length-map}
+use Rattle.answers.specs.Theory.Sound.{clash, mem-more}
+use Rattle.rules.specs.Sizes.{maxNesting, maxDocument, maxUnresolved}
+use Rattle.rules.specs.Bytes.{byteAt}
+use Rattle.rules.specs.Refusals.{Refusal, numberOf, Read, got, rejected, readThen}
+use Rattle.rules.specs.Utf8.{illFormed}
+use Rattle.rules.specs.Environment.{Environment, entriesOf, textOf}
+use Rattle.rules.specs.Characters.{afterGap}
+use Rattle.rules.specs.Paths.{Element, elementsOf, keysOf}
+use Rattle.rules.specs.Tree.{Key, Node, array, object, Root, numbered}
+use Rattle.rules.specs.Reading.{Start, brace, bracket, dollar, scalar, nothing, startOf, node, counted, piecesFrom, judgeValue, theEnd, valuePlace, allowedKeys, fieldWith, fieldJudged, fieldAt, elementAt, arrayAt, objectAt, pieceAt, valueFrom, rootAt, readRoot}
+use Rattle.rules.specs.Unresolved.{unresolvedIn}
+use Rattle.rules.specs.Documents.{Document, Input, given, denied, limited, ofRoot, readDocument, withEnvironment, inputs}
+use Rattle.rules.specs.Theory.Choices.{by-test, by-option, by-list}
+use Rattle.rules.specs.Theory.Places.{gap-reached}
+use Rattle.rules.specs.Theory.Scanning.{Among, among-some, readingNumbers, Scans, fails, From, to, simple-scans}
+use Rattle.rules.specs.Theory.PathsEnd.{Verdict, passes, refuses, Fitting, judge-verdict, disallowed, segments-scans, substitution-scans}
+use Rattle.rules.specs.Theory.PiecesEnd.{Reads, gots, rejects, of-rejected, at-end, then-reads, reads-map, counting-reads, counted-reads, opened-reads, by-start, begins, begun, pieces-read, judge-reads, members-reads}
+
+module _ (s : List ℕ) where
+  place-scans : (at : ℕ) → Scans (From at) (valuePlace s at)
+  unfolding valuePlace
+  place-scans at =
+      let p = afterGap s at in
+      let h = gap-reached s at .forward in
+      by-test (Scans (From at)) (eqb (byteAt s p) 58 || eqb (byteAt s p) 61)
+      (λ e. to (omega (arith, gap-reached s (p + 1) .forward)))
+      (λ e. by-test (Scans (From at)) (eqb (byteAt s p) 123) (λ f. to h) (λ f. fails (disallowed s p)))
+
+  -- where the values inside a container go forward
+  module _ (valueAt : ℕ → ℕ → ℕ → Read Node) (nesting : ℕ)
+      (values : (inner place items : ℕ) → nesting ≤ inner → inner ≤ maxNesting → Reads (From (suc place)) (valueAt inner place items)) where
+    with-reads : (at items : ℕ) (ks : List Key) → 0 < length ks → nesting + length ks ≤ suc maxNesting
+        → Reads (From (suc at)) (fieldWith valueAt s nesting at items ks)
+    unfolding fieldWith
+    with-reads at items [] h l = absurd (omega arith)
+    with-reads at items (k ∷ ks) h l =
+        then-reads (counting-reads _ (place-scans at)) (λ p place items₁ f.
+        then-reads (values (nesting + length ks) place items₁ (omega arith) (omega arith)) (λ n end items₂ g. at-end (omega arith)))
+
+    judged-reads : (at items : ℕ) (es : List Element) {o : Option Refusal} → Verdict (Fitting (allowedKeys nesting items) es) o
+        → Reads (From (suc at)) (fieldJudged valueAt s nesting at items es o)
+    unfolding fieldJudged
+    judged-reads at items es (refuses h) = rejects h
+    judged-reads at items es (passes h) =
+        let e : length (keysOf es) ≡ length es = length-map es _ in
+        with-reads at items (keysOf es) (omega arith) (omega arith)
+
+    field-reads : (at items : ℕ) → Reads (From (suc at)) (fieldAt valueAt s nesting at items)
+    unfolding fieldAt
+    field-reads at items =
+        then-reads (counting-reads items (segments-scans s true at)) (λ gs end items₁ h.
+        by-list (Reads (From (suc at))) gs (rejects refl) (λ g rest.
+        let es = elementsOf (g ∷ rest) in
+        reads-map (λ a last k. omega arith) (judged-reads end items₁ es (judge-verdict at (allowedKeys nesting items₁) es))))
+
+    module _ (nested : nesting ≤ maxNesting) where
+      element-reads : (at items : ℕ) → Reads (From (suc at)) (elementAt valueAt s nesting at items)
+      unfolding elementAt
+      element-reads at items =
+          by-start (Reads (From (suc at))) (startOf s at) (λ start. counted items at (valueAt nesting at))
+          (λ b. counted-reads items at (valueAt nesting at) (λ items₁. values nesting at items₁ (omega arith) nested))
+          (λ b. rejects (disallowed s at))
+
+      array-reads : (at items : ℕ) → Reads (From at) (arrayAt valueAt s nesting at items)
+      unfolding arrayAt
+      array-reads at items = then-reads (members-reads s 93 (elementAt valueAt s nesting) element-reads at items) (λ ns end items₁ h. at-end h)
+
+    object-reads : (closing at items : ℕ) → Reads (From at) (objectAt valueAt closing s nesting at items)
+    unfolding objectAt
+    object-reads closing at items =
+        then-reads (members-reads s closing (fieldAt valueAt s nesting) field-reads at items) (λ ms end items₁ h. at-end h)
+
+  module _ (valueAt : ℕ → ℕ → ℕ → Read Node) (nesting : ℕ)
+      (values : (inner place items : ℕ) → nesting < inner → inner ≤ maxNesting → Reads (From (suc place)) (valueAt inner place items)) where
+    piece-reads : (start : Start) (at items : ℕ) → startOf s at ≡ start → begins start ≡ true
+        → Reads (From (suc at)) (pieceAt valueAt s nesting start at items)
+    unfolding pieceAt begins
+    piece-reads brace at items e b =
+        opened-reads nesting at
+        (λ inner. readThen (objectAt valueAt 125 s inner (at + 1) items) (λ fs end items₁. got (node (object fs)) end items₁)) (λ h.
+        then-reads (object-reads valueAt (nesting + 1) (λ m p i k l. values m p i (omega arith) l) 125 (at + 1) items)
+        (λ fs end items₁ k. at-end (omega arith)))
+    piece-reads bracket at items e b =
+        opened-reads nesting at
+        (λ inner. readThen (arrayAt valueAt s inner (at + 1) items) (λ es end items₁. got (node (array es)) end items₁)) (λ h.
+        then-reads (array-reads valueAt (nesting + 1) (λ m p i k l. values m p i (omega arith) l) (omega arith) (at + 1) items)
+        (λ fs end items₁ k. at-end (omega arith)))
+    piece-reads dollar at items e b = then-reads (counting-reads items (substitution-scans s at)) (λ x end items₁ h. at-end h)
+    piece-reads scalar at items e b =
+        then-reads (counting-reads items (simple-scans s at (begun s at .1 e))) (λ t end items₁ h. at-end h)
+    piece-reads nothing at items e b = clash (cc)
+
+  -- the depth left and the nesting are more than 32 together, and the nesting is not: so the depth left is never 0
+  value-reads : (depth nesting at items : ℕ) → maxNesting < depth + nesting → nesting ≤ maxNesting
+      → Reads (From (suc at)) (valueFrom depth s nesting at items)
+  unfolding valueFrom
+  value-reads zero nesting at items h l = absurd (omega arith)
+  value-reads (suc depth) nesting at items h l =
+      let inner = pieceAt (valueFrom depth s) s nesting in
+      let piece = piece-reads (valueFrom depth s) nesting (λ m p i k o. value-reads depth m p i (omega arith) o) in
+      by-start (Reads (From (suc at))) (startOf s at) (λ start. readThen (piecesFrom (suc (length s)) inner s at at items) judgeValue)
+      (λ b. then-reads (pieces-read s inner piece (suc (length s)) at at items (omega arith))
+      (λ ps end items₁ m. judge-reads ps end items₁ (m .1 b .0) (m .1 b .1)))
+      (λ b. rejects (disallowed s at))
+
+  root-reads : (at : ℕ) → Reads (From at) (rootAt s at)
+  unfolding rootAt
+  root-reads at =
+      let inside = valueFrom maxNesting s in
+      let values : (inner place items : ℕ) → 1 ≤ inner → inner ≤ maxNesting → Reads (From (suc place)) (inside inner place items) =
+      λ m p i k l. value-reads maxNesting m p i (omega arith) l in
+      by-test (Reads (From at)) (eqb (byteAt s at) 123)
+      (λ e. then-reads (object-reads inside 1 values 125 (at + 1) 0) (λ fs end items h. at-end (omega arith)))
+      (λ e. by-test (Reads (From at)) (eqb (byteAt s at) 91)
+      (λ f. then-reads (array-reads inside 1 values (omega arith) (at + 1) 0) (λ es end items h. at-end (omega arith)))
+      (λ f. then-reads (object-reads inside 1 values theEnd at 0) (λ fs end items h. at-end h)))
+
+  pub document-reads : Reads (From 0) (readRoot s)
+  unfolding readRoot
+  document-reads =
+      then-reads (root-reads (afterGap s 0)) (λ r end items h.
+      by-test (Reads (From 0)) (ltb (afterGap s end) (length s)) (λ e. rejects refl) (λ e. at-end (omega arith)))
+
+pub reading-numbers : (s : List ℕ) (x : Refusal) → readRoot s ≡ rejected x → Among readingNumbers x
+reading-numbers s x e = of-rejected (rw e at (document-reads s))
+
+pub reading-ends : (s : List ℕ) (x : Refusal) → readRoot s ≡ rejected x → 1 ≤ numberOf x
+reading-ends s x e = among-some readingNumbers refl x (reading-numbers s x e)
+
+-- ---- documents and inputs
+
+-- an input that is refused only by these numbers
+data Denies {A : Type 0} (ns : List ℕ) : Input A → Type 0 where
+  gives : {a : A} → Denies ns (given a)
+  denies : {x : Refusal} → Among ns x → Denies ns (denied x)
+
+of-denied : {A : Type 0} {ns : List ℕ} {x : Refusal} → Denies {A = A} ns (denied x) → Among ns x
+of-denied (denies h) = h
+
+more-denies : {A : Type 0} (n : ℕ) {ns : List ℕ} {m : Input A} → Denies ns m → Denies (n ∷ ns) m
+more-denies n gives = gives
+more-denies n {ns} (denies {x} h) = denies (mem-more n ns (numberOf x) h)
+
+limited-denies : (d : Document) → Denies readingNumbers (limited d)
+unfolding limited
+limited-denies d = by-option (Denies readingNumbers) (getElem? (d .unresolved) maxUnresolved) (λ e. gives) (λ u e. denies refl)
+
+root-denies : {m : Read Root} → Reads (From 0) m → Denies readingNumbers (ofRoot m)
+unfolding ofRoot
+root-denies (gots {a} h) = let n = numbered a in limited-denies (record { root = n; unresolved = unresolvedIn n })
+root-denies (rejects h) = denies h
+
+document-denies : (s : List ℕ) → Denies (2 ∷ readingNumbers) (readDocument s)
+unfolding readDocument
+document-denies s =
+    by-option (Denies (2 ∷ readingNumbers)) (illFormed s) (λ e. more-denies 2 (root-denies (document-reads s))) (λ place e. denies refl)
+
+environment-denies : (env : Environment) {ns : List ℕ} {m : Input Document} → Denies ns m → Denies ns (withEnvironment env m)
+environment-denies env gives = gives
+environment-denies env (denies h) = denies h
+
+inputs-deny : (others : Bool) (d e : List ℕ) → Denies (1 ∷ 2 ∷ readingNumbers) (inputs others d e)
+unfolding inputs
+inputs-deny others d e =
+    by-test (Denies (1 ∷ 2 ∷ readingNumbers)) (others && leb (length d) maxDocument)
+    (λ f. by-option (Denies (1 ∷ 2 ∷ readingNumbers)) (entriesOf e) (λ g. denies refl) (λ es g.
+    environment-denies (textOf es) (more-denies 1 (document-denies d))))
+    (λ f. denies refl)
+
+pub document-numbers : (s : List ℕ) (x : Refusal) → readDocument s ≡ denied x → Among (2 ∷ readingNumbers) x
+document-numbers s x e = of-denied (rw e at (document-denies s))
+
+pub document-ends : (s : List ℕ) (x : Refusal) → readDocument s ≡ denied x → 1 ≤ numberOf x
+document-ends s x e = among-some (2 ∷ readingNumbers) refl x (document-numbers s x e)
+
+pub inputs-numbers : (b : Bool) (d e : List ℕ) (x : Refusal) → inputs b d e ≡ denied x → Among (1 ∷ 2 ∷ readingNumbers) x
+inputs-numbers b d e x h = of-denied (rw h at (inputs-deny b d e))
+
+pub inputs-end : (b : Bool) (d e : List ℕ) (x : Refusal) → inputs b d e ≡ denied x → 1 ≤ numberOf x
+inputs-end b d e x h = among-some (1 ∷ 2 ∷ readingNumbers) refl x (inputs-numbers b d e x h)
