@@ -20,10 +20,10 @@ widthOf lead =
       | false ↦ elim (ltb lead 224) [ true ↦ 2 | false ↦ elim (ltb lead 240) [ true ↦ 3 | false ↦ 4 ] ]
     ]
 
--- the place after the character at a place
+-- the place after the character at a place, never past the end
 unfoldable pub next : List ℕ → ℕ → ℕ
 unfolding widthOf
-next s at = at + widthOf (byteAt s at)
+next s at = min (at + widthOf (byteAt s at)) (length s)
 
 -- A character of several bytes is from U+0080 to U+10FFFF. Of well-formed bytes that goes without saying; so it holds of any.
 abbrev pub ofSeveral : ℕ → ℕ

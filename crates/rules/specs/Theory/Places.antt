@@ -1,6 +1,6 @@
 -- Each part of reading that is a `skip`: it never goes back, and it ends where its test fails. Nothing passes past the end of the text.
 use mathlib.Core.Path.{_≡_, refl}
-use Prim.Native.Nat.{ℕ, zero, suc, _+_, _-_, _≤_, _<_}
+use Prim.Native.Nat.{ℕ, zero, suc, _+_, _-_, _≤_, _<_, min}
 use mathlib.Core.Bool.{Bool, true, false, not, _&&_, _||_}
 use mathlib.Core.List.{List}
 use mathlib.Core.Logic.{_⊎_, inl, inr}
@@ -18,13 +18,13 @@ use Rattle.rules.specs.Pieces.{stopsUnquoted, unquotedEnd}
 use Rattle.rules.specs.Theory.Choices.{by-test, same-test}
 use Rattle.rules.specs.Theory.Skips.{Reached, skip-moves, skip-reaches}
 
-pub next-forward : (s : List ℕ) (at : ℕ) → at < next s at
+pub next-forward : (s : List ℕ) (at : ℕ) → at < length s → at < next s at
 unfolding next widthOf
-next-forward s at =
+next-forward s at h =
     let b = byteAt s at in
-    by-test (λ w. at < at + w) (ltb b 128) (λ e. omega arith) (λ e.
-    by-test (λ w. at < at + w) (ltb b 224) (λ e. omega arith) (λ e.
-    by-test (λ w. at < at + w) (ltb b 240) (λ e. omega arith) (λ e. omega arith)))
+    by-test (λ w. at < min (at + w) (length s)) (ltb b 128) (λ e. omega arith) (λ e.
+    by-test (λ w. at < min (at + w) (length s)) (ltb b 224) (λ e. omega arith) (λ e.
+    by-test (λ w. at < min (at + w) (length s)) (ltb b 240) (λ e. omega arith) (λ e. omega arith)))
 
 -- ---- past the end
 
@@ -64,27 +64,27 @@ byte-inside s p b h e = inside s p (λ past. rw (byte-past s p past) (ne-eqb 256
 module _ (s : List ℕ) where
   -- a test of the character, or of the byte, at a place
   unread : (f : ℕ → Bool) → f noCharacter ≡ false → (p : ℕ) → f (characterAt s p) ≡ true → (p < length s) × (p < next s p)
-  unread f none p e = (inside s p (λ past. rw (character-past s p past) none) e, next-forward s p)
+  unread f none p e = let h = inside s p (λ past. rw (character-past s p past) none) e in (h, next-forward s p h)
 
-  inline-moves : (p : ℕ) → isInline (characterAt s p) ≡ true → (p < length s) × (p < next s p)
+  pub inline-moves : (p : ℕ) → isInline (characterAt s p) ≡ true → (p < length s) × (p < next s p)
   inline-moves = unread isInline refl
 
-  digit-moves : (p : ℕ) → isDigit (byteAt s p) ≡ true → (p < length s) × (p < p + 1)
+  pub digit-moves : (p : ℕ) → isDigit (byteAt s p) ≡ true → (p < length s) × (p < p + 1)
   digit-moves p e = (inside s p (λ past. rw (byte-past s p past)) e, omega arith)
 
-  line-moves : (p : ℕ) → not (isNewline (characterAt s p) || eqb (characterAt s p) noCharacter) ≡ true → (p < length s) × (p < next s p)
+  pub line-moves : (p : ℕ) → not (isNewline (characterAt s p) || eqb (characterAt s p) noCharacter) ≡ true → (p < length s) × (p < next s p)
   line-moves = unread (λ c. not (isNewline c || eqb c noCharacter)) refl
 
-  run-moves : (p : ℕ) → (ltb p (length s) && not (threeQuotes s p)) ≡ true → (p < length s) × (p < next s p)
-  run-moves p e = (inside s p (λ past. rw (le-ltb p (length s) past)) e, next-forward s p)
+  pub run-moves : (p : ℕ) → (ltb p (length s) && not (threeQuotes s p)) ≡ true → (p < length s) × (p < next s p)
+  run-moves p e = let h = inside s p (λ past. rw (le-ltb p (length s) past)) e in (h, next-forward s p h)
 
-  quote-moves : (p : ℕ) → eqb (byteAt s p) 34 ≡ true → (p < length s) × (p < p + 1)
+  pub quote-moves : (p : ℕ) → eqb (byteAt s p) 34 ≡ true → (p < length s) × (p < p + 1)
   quote-moves p e = (inside s p (λ past. rw (byte-past s p past)) e, omega arith)
 
-  unquoted-moves : (p : ℕ) → not (stopsUnquoted s p) ≡ true → (p < length s) × (p < next s p)
-  unquoted-moves p e = (inside s p (λ past. rw (stops-past s p past)) e, next-forward s p)
+  pub unquoted-moves : (p : ℕ) → not (stopsUnquoted s p) ≡ true → (p < length s) × (p < next s p)
+  unquoted-moves p e = let h = inside s p (λ past. rw (stops-past s p past)) e in (h, next-forward s p h)
 
-  sequence-moves : (p : ℕ) → ltb 0 (sequenceAt s p) ≡ true → (p < length s) × (p < p + sequenceAt s p)
+  pub sequence-moves : (p : ℕ) → ltb 0 (sequenceAt s p) ≡ true → (p < length s) × (p < p + sequenceAt s p)
   sequence-moves p e = (inside s p (λ past. rw (sequence-past s p past)) e, omega (arith, ltb-true 0 (sequenceAt s p) e))
 
   module _ (at : ℕ) where

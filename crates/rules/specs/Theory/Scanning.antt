@@ -118,7 +118,7 @@ module _ (s : List ℕ) where
       by-test (Scans (From at)) (ltb (byteAt s at) 32) (λ g. fails refl) (λ g.
       by-test (Scans (From at)) (eqb (byteAt s at) 92)
       (λ k. then-scans (escape-scans at) (λ t p l. prepend-scans t (scans-from (omega arith) (body-scans n p (omega arith)))))
-      (λ k. let l = next-forward s at in prepend-scans _ (scans-from (omega arith) (body-scans n (next s at) (omega arith)))))))
+      (λ k. let l = next-forward s at i in prepend-scans _ (scans-from (omega arith) (body-scans n (next s at) (omega arith)))))))
 
   triple-scans : (at : ℕ) → Scans (From (suc at)) (tripleAt s at)
   unfolding tripleAt

@@ -1,5 +1,5 @@
 -- `skip` ends by its test and not for want of fuel: what is asked is that every step goes forward and none is made past a bound.
-use mathlib.Core.Path.{_≡_, refl}
+use mathlib.Core.Path.{_≡_, refl, _∙_}
 use Prim.Native.Nat.{ℕ, zero, suc, _-_, _≤_, _<_}
 use mathlib.Core.Bool.{Bool, true, false}
 use native.Mathlib.Omega.{arith}
@@ -50,3 +50,18 @@ module _ (test : ℕ → Bool) (step : ℕ → ℕ) (bound : ℕ) (moves : (p : 
   skip-stable (suc n) (suc m) at h k =
       same-test (test at) (λ e. skip-stable n m (step at) (omega (arith, moves at e .0, moves at e .1)) (omega (arith, moves at e .0, moves at e .1)))
       (λ e. refl)
+
+  first : (n at : ℕ) → test at ≡ true → skip test step (suc n) at ≡ skip test step n (step at)
+  unfolding skip
+  first n at e = rw (e, skip)
+
+  -- with fuel enough it goes on where the test passes, and it stays where the test fails
+  pub skip-on : (n at : ℕ) → bound - at ≤ n → test at ≡ true → skip test step n at ≡ skip test step n (step at)
+  skip-on zero at h e = absurd (omega (arith, moves at e .0))
+  skip-on (suc n) at h e =
+      first n at e ∙ skip-stable n (suc n) (step at) (omega (arith, moves at e .0, moves at e .1)) (omega (arith, moves at e .1))
+
+  pub skip-off : (n at : ℕ) → test at ≡ false → skip test step n at ≡ at
+  unfolding skip
+  skip-off zero at e = refl
+  skip-off (suc n) at e = rw (e, skip)
