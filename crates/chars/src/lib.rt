@@ -1,4 +1,5 @@
-// The characters of a text: its bytes, whether they are well-formed UTF-8, and a cursor that goes forward one character at a time.
+// The three kinds of offset, which never stand in for each other; and the characters of a text: its bytes, whether they are
+// well-formed UTF-8, and a cursor that goes forward one character at a time.
 ghost use mathlib.Core.Path.{_≡_};
 ghost use Prim.Native.Nat.{_≤_, _<_};
 ghost use lib.ListN.{length};
@@ -8,6 +9,12 @@ ghost use Rattle.chars.specs.Cursor.{ByteIs, WidthIs, PastIs, StepIs, il
 
 /// A place in a document or a path text.
 pub struct DocAt(pub usize);
+
+/// An offset in records, or a count of their bytes.
+pub struct RecAt(pub usize);
+
+/// An offset in text, or a count of its bytes.
+pub struct TextAt(pub usize);
 
 /// A reading place. Cursors come from the start of a text and from steps.
 pub struct Cursor {
