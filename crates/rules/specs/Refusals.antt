@@ -14,7 +14,7 @@ abbrev pub placeOf : Refusal → ℕ
 placeOf (placed number place) = place
 placeOf (nowhere number) = 0
 
--- What a definition gives where its fuel runs out. The paper has no number 0, and no job gives this refusal (modules ReadingEnds and Resolving of Theory).
+-- What a definition gives where its fuel runs out. The paper has no number 0, and no job gives this refusal (modules ReadingEnds, Resolving and LookUps of Theory).
 abbrev pub spent : Refusal
 spent = nowhere 0
 

@@ -22,3 +22,12 @@ pub mod Fits
 pub mod SameMeaning
 pub mod ReadBack
 pub mod Accepted
+-- look-up: in any table, and in one that was laid out
+pub mod TableSteps
+pub mod Tables
+pub mod LookUpSteps
+pub mod PathNumbers
+pub mod LookUps
+pub mod LaidOut
+pub mod NamedValues
+pub mod SheetLookUps

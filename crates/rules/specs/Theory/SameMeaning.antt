@@ -71,7 +71,7 @@ at-right s t n q (before, after, l, e) = (
   e ∙ ap (λ z. before ++ z) (append-assoc s t after) ∙ sym (append-assoc before s (t ++ after)),
 )
 
-slice-at : {text : List ℕ} {o : ℕ} (t : Text) → At text o t → slice o (o + length t) text ≡ t
+pub slice-at : {text : List ℕ} {o : ℕ} (t : Text) → At text o t → slice o (o + length t) text ≡ t
 slice-at t (before, after, l, e) =
     rw (e, ← l, take-append-add before (t ++ after) (length t), take-append-seam t after) (drop-append-seam before t)
 
@@ -130,12 +130,12 @@ record-some (scalar x) = scalar-some x
 record-some (arrayOf vs) = omega arith
 record-some (objectOf ms) = omega arith
 
-count-values : (vs : Values) → countValues vs ≤ valueRecordSizes vs
+pub count-values : (vs : Values) → countValues vs ≤ valueRecordSizes vs
 unfolding countValues recordSize
 count-values no-values = omega arith
 count-values (val v vs) = omega (arith, record-some v, count-values vs)
 
-count-members : (ms : Members) → countMembers ms ≤ memberRecordSizes ms
+pub count-members : (ms : Members) → countMembers ms ≤ memberRecordSizes ms
 unfolding countMembers recordSize
 count-members no-members = omega arith
 count-members (member k v ms) = omega (arith, count-members ms)
