@@ -85,19 +85,31 @@ unfoldable pub ones : Value
 unfolding num obj
 ones = obj (("a", num "1") ∷ ("b", num "1") ∷ ("c", num "1") ∷ [])
 
+abbrev pub pair : String
+pair = "a=${c},b=${d},c=1,d=2"
+
+unfoldable pub pairs : Value
+unfolding num obj
+pairs = obj (("a", num "1") ∷ ("b", num "2") ∷ ("c", num "1") ∷ ("d", num "2") ∷ [])
+
 unfoldable pub sheets : List Sent
-unfolding num obj ones
+unfolding num obj ones pairs
 sheets =
     -- as resolved: a's value needs b's
     sent chain ((1, some (num "1")) ∷ (0, some (num "1")) ∷ []) ones 0
     -- an entry that only a later one bears out
     ∷ sent chain ((0, some (num "1")) ∷ (1, some (num "1")) ∷ []) ones 17
-    -- a wrong answer, a wrong table, an entry twice, an entry missing, a number that is none
+    -- a wrong answer, also after a right one, a wrong table, an entry twice, an entry missing, a number that is none
     ∷ sent chain ((1, some (num "2")) ∷ (0, some (num "2")) ∷ []) ones 17
+    ∷ sent chain ((1, some (num "1")) ∷ (0, some (num "2")) ∷ []) ones 17
+    ∷ sent "a=${?b},b=${?c},c=1" ((1, some (num "1")) ∷ (0, none) ∷ []) (obj (("b", num "1") ∷ ("c", num "1") ∷ [])) 17
     ∷ sent chain ((1, some (num "1")) ∷ (0, some (num "1")) ∷ []) (obj []) 17
     ∷ sent chain ((1, some (num "1")) ∷ (1, some (num "1")) ∷ (0, some (num "1")) ∷ []) ones 17
     ∷ sent chain ((1, some (num "1")) ∷ []) ones 17
     ∷ sent chain ((1, some (num "1")) ∷ (0, some (num "1")) ∷ (2, none) ∷ []) ones 17
+    -- values that do not need each other, in either order
+    ∷ sent pair ((0, some (num "1")) ∷ (1, some (num "2")) ∷ []) pairs 0
+    ∷ sent pair ((1, some (num "2")) ∷ (0, some (num "1")) ∷ []) pairs 0
     -- a needless entry that is right, of a hidden value too
     ∷ sent "a=${?x},a=1" ((0, none) ∷ []) (obj (("a", num "1") ∷ [])) 0
     ∷ []

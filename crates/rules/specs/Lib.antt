@@ -19,6 +19,9 @@ pub mod Checking
 pub mod Meaning
 pub mod LookUp
 pub mod Jobs
+pub mod Counting
+pub mod Reordering
 pub mod Cases
 pub mod Examples
 pub mod Theory
+pub mod Demands

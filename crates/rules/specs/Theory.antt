@@ -31,3 +31,8 @@ pub mod LookUps
 pub mod LaidOut
 pub mod NamedValues
 pub mod SheetLookUps
+-- the jobs: resolve and check held against each other
+pub mod Jobs
+pub mod BothJobs
+pub mod Reordered
+pub mod Counts

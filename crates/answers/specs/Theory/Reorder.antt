@@ -64,3 +64,18 @@ module _ {F R : Type 0} (ρ : Rules F R) where
     laid = reorder-laid S (acc .laid) S′ (p .once) (p .nothing-else) o;
     root-runs = run-keeps S S′ (p .holds) root (acc .root-runs);
   }
+
+-- what a run that has its value takes is there
+run-takes : {F R A : Type 0} (S S′ : Trail R) → Within S′ S → (t : Ask F R A) {a : A} → run (lookup S′) t ≡ value a → Met S S′ t
+run-takes S S′ w (done a) e = tt
+run-takes S S′ w (refuse x) e = tt
+run-takes S S′ w (need q f) e =
+    let (r, h, k) = run-inv (lookup S′) q f e in
+    (rw h, rw (w q r h) (run-takes S S′ w (f r) k))
+
+-- so in a trail that is laid each question stands after those that it needs
+pub laid-ordered : {F R : Type 0} (ρ : Rules F R) (S S′ : Trail R) → Within S′ S → Laid ρ S′ → Ordered ρ S S′
+laid-ordered ρ S [] w l = tt
+laid-ordered ρ S (e ∷ S′) w l =
+    let w′ : Within S′ S = λ q r h. w q r (lookup-keeps e S′ (l .0) q r h) in
+    (run-takes S S′ w′ (ρ .rule (e .0)) (l .1), laid-ordered ρ S S′ w′ (l .2))
