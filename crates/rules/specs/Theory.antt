@@ -5,6 +5,7 @@ pub mod Choices
 pub mod Skips
 pub mod Places
 pub mod Walks
+pub mod Ascii
 pub mod Scanning
 pub mod PathsEnd
 pub mod PiecesEnd
