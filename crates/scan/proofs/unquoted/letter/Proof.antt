@@ -1,0 +1,19 @@
+-- laws: letter-ends
+use Rattle.scan.proofs.Spelling.{letter-ends}
+use borrow.Author.Needs.{needs}
+use Rattle.scan.proofs.unquoted.letter.Statement.{statement}
+use Rattle.scan.proofs.unquoted.letter.Tie as tie
+
+-- what is left to show, a declaration for each need
+
+look-requires : tie.Need-look-requires
+look-requires c κs = search needs
+
+returns : tie.Need-returns
+returns c = search letter-ends
+
+returns-2 : tie.Need-returns-2
+returns-2 c = search letter-ends
+
+pub letter-spec : {M : Type 1} → statement M
+letter-spec = tie.close (tie.spec look-requires returns returns-2)

@@ -1,0 +1,143 @@
+// Unquoted text, and the words that are pieces of their own.
+ghost use mathlib.Core.Path.{_≡_};
+ghost use mathlib.Core.List.{_∷_, []};
+ghost use Prim.Native.Nat.{_≤_, _<_};
+ghost use lib.ListN.{length};
+ghost use Rattle.answers.specs.Ask.{mem};
+ghost use Rattle.rules.specs.Pieces.{forbidden, stopsUnquoted, startsSimple, unquotedEnd, wordFalse};
+ghost use Rattle.scan.specs.Scan.{EndIs};
+ghost use Rattle.scan.specs.Words.{SpelledIs, WordIs};
+use crate::is_space;
+use crate::look;
+use crate::starts_comment;
+use chars::Cursor;
+
+/// A character that unquoted text cannot have.
+pub fn is_forbidden(ch: u32) -> bool
+    ensures { λ r. ⌜ r ≡ mem ch forbidden ⌝ }
+{
+    match ch {
+        33..=36 | 38 | 42..=44 | 58 | 61 | 63..=64 | 91..=94 | 96 | 123 | 125 => true,
+        _ => false,
+    }
+}
+
+/// Whether unquoted text goes no further than here.
+pub fn stops_unquoted(s: &[u8], c: Cursor) -> bool
+    requires { ⌜ (length (now s) ≤ 32768) × (c .at .0 ≤ length (now s)) ⌝ }
+    ensures { λ r. ⌜ r ≡ stopsUnquoted (now (s .entry)) (c .at .0) ⌝ }
+{
+    let here = look(s, c);
+    let ch = here.ch;
+    if ch == 1114112 {
+        return true;
+    }
+    if is_space(ch) {
+        return true;
+    }
+    if is_forbidden(ch) {
+        return true;
+    }
+    starts_comment(s, c)
+}
+
+/// The place after unquoted text.
+pub fn unquoted_end(s: &[u8], c: Cursor) -> Cursor
+    requires { ⌜ (length (now s) ≤ 32768) × (c .at .0 ≤ length (now s)) ⌝ }
+    ensures { λ r. ⌜ EndIs (now (s .entry)) (c .at .0) (unquotedEnd (now (s .entry)) (c .at .0)) r ⌝ }
+{
+    let mut p = c;
+    loop {
+        if stops_unquoted(s, p) {
+            return p;
+        }
+        let here = look(s, p);
+        let next = here.next;
+        p = next;
+    }
+}
+
+/// Whether a simple piece begins here.
+pub fn starts_simple(s: &[u8], c: Cursor) -> bool
+    requires { ⌜ (length (now s) ≤ 32768) × (c .at .0 ≤ length (now s)) ⌝ }
+    ensures { λ r. ⌜ r ≡ startsSimple (now (s .entry)) (c .at .0) ⌝ }
+{
+    let here = look(s, c);
+    let ch = here.ch;
+    if ch == 34 {
+        return true;
+    }
+    if stops_unquoted(s, c) {
+        return false;
+    }
+    true
+}
+
+// Whether letters stand here, and the place after them.
+enum Letters {
+    Yes(Cursor),
+    No,
+}
+
+fn letter(s: &[u8], c: Cursor, a: u32) -> Letters
+    requires { ⌜ (length (now s) ≤ 32768) × (c .at .0 ≤ length (now s)) × (a < 128) ⌝ }
+    ensures { λ r. ⌜ SpelledIs (a ∷ []) (now (s .entry)) (c .at .0) r ⌝ }
+{
+    let here = look(s, c);
+    let ch = here.ch;
+    if ch == a {
+        let next = here.next;
+        return Letters::Yes(next);
+    }
+    Letters::No
+}
+
+fn four(s: &[u8], c: Cursor, a: u32, b: u32, d: u32, e: u32) -> Letters
+    requires { ⌜ (length (now s) ≤ 32768) × (c .at .0 ≤ length (now s)) × (a < 128) × (b < 128) × (d < 128) × (e < 128) ⌝ }
+    ensures { λ r. ⌜ SpelledIs (a ∷ b ∷ d ∷ e ∷ []) (now (s .entry)) (c .at .0) r ⌝ }
+{
+    let Letters::Yes(second) = letter(s, c, a) else {
+        return Letters::No;
+    };
+    let Letters::Yes(third) = letter(s, second, b) else {
+        return Letters::No;
+    };
+    let Letters::Yes(fourth) = letter(s, third, d) else {
+        return Letters::No;
+    };
+    letter(s, fourth, e)
+}
+
+fn spells_false(s: &[u8], c: Cursor) -> Letters
+    requires { ⌜ (length (now s) ≤ 32768) × (c .at .0 ≤ length (now s)) ⌝ }
+    ensures { λ r. ⌜ SpelledIs wordFalse (now (s .entry)) (c .at .0) r ⌝ }
+{
+    match letter(s, c, 102) {
+        Letters::Yes(next) => four(s, next, 97, 108, 115, 101),
+        Letters::No => Letters::No,
+    }
+}
+
+/// A word that unquoted text starts with, and the place after it.
+pub enum Word {
+    True(Cursor),
+    False(Cursor),
+    Null(Cursor),
+    Other,
+}
+
+pub fn word_at(s: &[u8], c: Cursor) -> Word
+    requires { ⌜ (length (now s) ≤ 32768) × (c .at .0 ≤ length (now s)) ⌝ }
+    ensures { λ r. ⌜ WordIs (now (s .entry)) (c .at .0) r ⌝ }
+{
+    match four(s, c, 116, 114, 117, 101) {
+        Letters::Yes(end) => Word::True(end),
+        Letters::No => match spells_false(s, c) {
+            Letters::Yes(end) => Word::False(end),
+            Letters::No => match four(s, c, 110, 117, 108, 108) {
+                Letters::Yes(end) => Word::Null(end),
+                Letters::No => Word::Other,
+            },
+        },
+    }
+}
