@@ -1,0 +1,117 @@
+-- Laws on lists: a part of a buffer that is lent and comes back, and bytes that are copied.
+use mathlib.Core.Path.{_≡_, refl, sym, ap, _∙_}
+use mathlib.Core.List.{List, [], _∷_, _++_, append-nil, append-assoc}
+use Prim.Native.Nat.{ℕ, suc, _+_, _-_, _≤_, _<_}
+use native.Mathlib.Nat.{le-refl}
+use native.Mathlib.Numerals.{add-one}
+use native.Mathlib.Omega.{arith}
+use lib.ListN.{length, getD, set, take, drop, length-drop, length-append, length-set, drop-of-length-le}
+use lib.Seq.{take-all, drop-drop, take-at, drop-at, take-suc, drop-cons, drop-append-le, set-at, length-take-le, slice, slice-empty, length-slice}
+use borrow.Rule.Slice.PartMut.{putMid}
+use Rattle.strings.specs.Units.{Laid, WriteIs}
+
+-- the part `&mut x[u..]` that is lent, and x after the part has come back as y
+abbrev pub part : ℕ → List ℕ → List ℕ
+part u x = take (length x - u) (drop u x)
+
+abbrev pub back : ℕ → List ℕ → List ℕ → List ℕ
+back u x y = putMid u (length x - u) x y
+
+part-is : (u : ℕ) (x : List ℕ) → part u x ≡ drop u x
+part-is u x = take-all (length x - u) (drop u x) (rw (length-drop u x) (le-refl (length x - u)))
+
+pub part-length : (u : ℕ) (x : List ℕ) → length (part u x) ≡ length x - u
+part-length u x = ap length (part-is u x) ∙ length-drop u x
+
+back-is : (u : ℕ) (x y : List ℕ) → back u x y ≡ take u x ++ y
+back-is u x y =
+    ap (λ (l : List ℕ). take u x ++ (y ++ l)) (drop-of-length-le (drop u x) {i = length x - u} (rw (length-drop u x) (le-refl (length x - u))))
+    ∙ ap (λ (l : List ℕ). take u x ++ l) (append-nil y)
+
+pub back-length : (u : ℕ) (x y : List ℕ) → u ≤ length x → length y ≡ length (part u x) → length (back u x y) ≡ length x
+back-length u x y h e =
+    ap length (back-is u x y) ∙ length-append (take u x) y ∙ ap (λ (n : ℕ). n + length y) (length-take-le u x h)
+    ∙ ap (λ (n : ℕ). u + n) (e ∙ part-length u x) ∙ whole
+  where
+    whole : u + (length x - u) ≡ length x
+    whole = omega arith
+
+-- text that is laid behind text that was laid
+pub laid-join : (t₁ t₂ b x y : List ℕ) (u : ℕ) → u ≡ length t₁ → Laid t₁ b x → Laid t₂ (part u x) y → Laid (t₁ ++ t₂) b (back u x y)
+laid-join t₁ t₂ b x y u e h k =
+    back-is u x y
+    ∙ ap (λ (l : List ℕ). l ++ y) (ap (take u) h ∙ take-at t₁ (drop (length t₁) b) u (sym e))
+    ∙ ap (λ (l : List ℕ). t₁ ++ l) (k ∙ ap (λ (l : List ℕ). t₂ ++ l) rest)
+    ∙ sym (append-assoc t₁ t₂ (drop (length (t₁ ++ t₂)) b))
+  where
+    rest : drop (length t₂) (part u x) ≡ drop (length (t₁ ++ t₂)) b
+    rest =
+        ap (drop (length t₂)) (part-is u x ∙ ap (drop u) h ∙ drop-at t₁ (drop (length t₁) b) u (sym e))
+        ∙ drop-drop (length t₂) (length t₁) b
+        ∙ ap (λ (n : ℕ). drop n b) (sym (length-append t₁ t₂))
+
+-- ---- a copy of some bytes of the text
+
+-- so many bytes are copied
+pub record CopyLoop (s : List ℕ) (from n : ℕ) (before out : List ℕ) (i : ℕ) : Type 0 where
+  pub near : i ≤ n
+  pub bytes : out ≡ slice from (from + i) s ++ drop i before
+  pub kept : length out ≡ length before
+
+pub copy-start : {s : List ℕ} {from n : ℕ} {b : List ℕ} → CopyLoop s from n b b 0
+copy-start {s} {from} {n} {b} = record { near = omega arith; bytes = none; kept = refl }
+  where
+    here : from + 0 ≡ from
+    here = omega arith
+
+    none : b ≡ slice from (from + 0) s ++ drop 0 b
+    none = rw (here, slice-empty from s)
+
+-- one byte more of a slice
+slice-more : (s : List ℕ) (from i : ℕ) → from + i < length s → slice from (from + (i + 1)) s ≡ slice from (from + i) s ++ (getD s (from + i) 0 ∷ [])
+slice-more s from i h =
+    ap (λ (n : ℕ). slice from n s) next
+    ∙ ap (drop from) (take-suc s (from + i) 0 h)
+    ∙ drop-append-le from (take (from + i) s) (getD s (from + i) 0 ∷ []) (rw (length-take-le (from + i) s (omega arith)) (omega arith))
+  where
+    next : from + (i + 1) ≡ suc (from + i)
+    next = omega arith
+
+module _ {s : List ℕ} {from to : ℕ} {b x : List ℕ} {i : ℕ} (I : CopyLoop s from (to - from) b x i) where
+  pub copy-turn : i < to - from → to ≤ length s → to - from ≤ length b → CopyLoop s from (to - from) b (set x i (getD s (from + i) 0)) (i + 1)
+  copy-turn h k l = record {
+    near = omega arith;
+    bytes = rw (
+      I .bytes,
+      drop-cons b i 0 (omega arith),
+      set-at (slice from (from + i) s) (getD b i 0) (drop (suc i) b) (getD s (from + i) 0) i long,
+      slice-more s from i (omega arith),
+      add-one i,
+    ) (sym (append-assoc (slice from (from + i) s) (getD s (from + i) 0 ∷ []) (drop (suc i) b)));
+    kept = length-set x i (getD s (from + i) 0) ∙ I .kept;
+  }
+    where
+      gone : from + i - from ≡ i
+      gone = omega arith
+
+      long : length (slice from (from + i) s) ≡ i
+      long = length-slice from (from + i) s (omega arith) ∙ gone
+
+pub copy-done : {s : List ℕ} {from to : ℕ} {b x : List ℕ} {i : ℕ} → CopyLoop s from (to - from) b x i → to - from ≤ i → from ≤ to → to ≤ length s
+    → WriteIs (slice from to s) b x (to - from)
+copy-done {s} {from} {to} {b} {x} {i} I h k l = record {
+  is = sym long;
+  bytes = I .bytes ∙ rw (there, long, sym all);
+  kept = I .kept;
+}
+  where
+    all : to - from ≡ i
+    all = omega (arith, I .near)
+
+    there : from + i ≡ to
+    there = omega (arith, I .near)
+
+    long : length (slice from to s) ≡ to - from
+    long = length-slice from to s l
+
+pub ruleset copies = (arith, copy-start, copy-turn, copy-done)
