@@ -51,7 +51,8 @@ module _ {s : List ℕ} {at : ℕ} {r : Step} (h : StepIs s at r) where
   at-end e = rw e at (h .moved)
 
 -- what tells no byte from 128 on from another may be asked of the character
-pub same-seen : {A : Type 0} (f : ℕ → A) (a : A) → ((b : ℕ) → 128 ≤ b → f b ≡ a) → {s : List ℕ} {at ch p : ℕ} → Seen s at ch p → f (byteAt s at) ≡ f ch
+pub same-seen : {A : Type 0} (f : ℕ → A) (a : A) → ((b : ℕ) → 128 ≤ b → f b ≡ a)
+    → {s : List ℕ} {at ch p : ℕ} → Seen s at ch p → f (byteAt s at) ≡ f ch
 same-seen f a none {s} {at} {ch} z = go (ltb ch 128) refl
   where
     go : (t : Bool) → ltb ch 128 ≡ t → f (byteAt s at) ≡ f ch

@@ -1,9 +1,9 @@
 pub mod Ranges
-pub mod Units
+pub mod Digits
 pub mod Points
 pub mod Buffers
-pub mod Triple
-pub mod Escapes
+pub mod Runs
+pub mod Escaping
 pub mod Pieces
 pub mod Bodies
 pub mod Whole

@@ -25,7 +25,8 @@ use Rattle.strings.specs.declared.Piece.{Piece}
 -- ---- a piece
 
 module _ {s : List ℕ} {at : ℕ} {b a : List ℕ} (kept : length a ≡ length b) where
-  piece-refusal : {x : Refusal} {k : ℕ} {p : DocAt} → turnAt s at ≡ refused x → k ≡ numberOf x → p .0 ≡ placeOf x → PieceIs s at b a (Piece.Refused k p)
+  piece-refusal : {x : Refusal} {k : ℕ} {p : DocAt} → turnAt s at ≡ refused x → k ≡ numberOf x → p .0 ≡ placeOf x
+      → PieceIs s at b a (Piece.Refused k p)
   piece-refusal {x} {k} {p} e i j = record {
     is = ap (λ (n : ℕ). Piece.Refused n p) i ∙ ap (λ (n : ℕ). Piece.Refused (numberOf x) (doc n)) j ∙ ap pieceOf (sym e);
     bytes = rw e tt;
@@ -63,7 +64,8 @@ module _ {s : List ℕ} {at : ℕ} {r : Step} (h : StepIs s at r) where
       pub piece-control : {b : List ℕ} {p : DocAt} → p .0 ≡ at → ch < 32 → PieceIs s at b b (Piece.Refused 5 p)
       unfolding turnAt
       piece-control w l =
-          piece-refusal refl {x = placed 5 at} (rw (lt-leb (length s) at (z .within), seen-ne z 34 (omega arith) n, seen-lt z 32 (omega arith) l, turnAt)) refl w
+          piece-refusal refl {x = placed 5 at}
+          (rw (lt-leb (length s) at (z .within), seen-ne z 34 (omega arith) n, seen-lt z 32 (omega arith) l, turnAt)) refl w
 
       module _ (l : 32 ≤ ch) where
         module _ (q : ch ≡ 92) {x : Quoted} {b a : List ℕ} (k : EscapeIs s at b a x) where

@@ -20,13 +20,13 @@ use Rattle.chars.specs.declared.DocAt.{DocAt}
 use Rattle.chars.specs.declared.Cursor.{Cursor}
 use Rattle.chars.specs.declared.Step.{Step}
 use Rattle.strings.specs.Units.{hexOf, HexIs, unitScan, UnitFar, UnitIs, expectScan, ExpectFar, ExpectIs, PairIs, PointFar, PointIs}
-use Rattle.strings.specs.declared.Hex.{Hex}
-use Rattle.strings.specs.declared.Unit.{Unit as CodeUnit}
+use Rattle.strings.specs.declared.units.Hex.{Hex}
+use Rattle.strings.specs.declared.units.Unit.{Unit as CodeUnit}
 use Rattle.strings.specs.Answers.{clash}
-use Rattle.strings.specs.declared.Expected.{Expected}
-use Rattle.strings.specs.declared.CodePoint.{CodePoint}
+use Rattle.strings.specs.declared.escapes.Expected.{Expected}
+use Rattle.strings.specs.declared.escapes.CodePoint.{CodePoint}
 use Rattle.strings.proofs.Ranges.{range-least, range-most}
-use Rattle.strings.proofs.Units.{past-digits, digit-seen}
+use Rattle.strings.proofs.Digits.{past-digits, digit-seen}
 
 -- ---- four digits
 
@@ -197,7 +197,8 @@ module _ {s : List ℕ} {first at : ℕ} {r : CodeUnit} (h : UnitIs s first at r
     }
 
     module _ (j : t ≡ false) {u : Bool} (k : u ≡ isHigh unit) where
-      pub unicode-mate : {q : CodePoint} → u ≡ true → PointIs (mateOf s first unit (c .at .0)) s (c .at .0) q → PointIs (unicodeEscape s first at) s at q
+      pub unicode-mate : {q : CodePoint} → u ≡ true → PointIs (mateOf s first unit (c .at .0)) s (c .at .0) q
+          → PointIs (unicodeEscape s first at) s at q
       unfolding unicodeEscape
       unicode-mate {q} l m =
           let z : UnitFar (length s) at (CodeUnit.Value unit c) = rw e at (h .far) in

@@ -14,10 +14,10 @@ use Rattle.chars.specs.declared.Cursor.{Cursor}
 use Rattle.strings.specs.Units.{ExpectFar, ExpectIs}
 use Rattle.strings.specs.Decoded.{ThreeSays, ThreeIs, rawFrom, RawIs, BodyIs, QuotedIs}
 use Rattle.strings.specs.Answers.{clash, decoded-before}
-use Rattle.strings.specs.declared.Expected.{Expected}
+use Rattle.strings.specs.declared.escapes.Expected.{Expected}
 use Rattle.strings.specs.declared.Quoted.{Quoted}
-use Rattle.strings.specs.declared.Three.{Three}
-use Rattle.strings.proofs.Triple.{no-quote}
+use Rattle.strings.specs.declared.triple.Three.{Three}
+use Rattle.strings.proofs.Runs.{no-quote}
 
 triple-raw : (s : List ℕ) (at : ℕ) → tripleAt s at ≡ rawFrom s (at + 3)
 unfolding tripleAt rawFrom

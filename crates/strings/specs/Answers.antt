@@ -55,8 +55,8 @@ module _ {m : Scan Text} {s : List ℕ} {at : ℕ} {b a : List ℕ} {r : Quoted}
 -- ---- what makes an answer
 
 module _ {m : Scan Text} {s : List ℕ} {at : ℕ} {b a : List ℕ} (kept : length a ≡ length b) where
-  pub decoded-text : {text : Text} {c : Cursor} {u : TextAt} → m ≡ ok text (c .at .0) → u .0 ≡ length text → Laid text b a → TextFar (length s) at (Quoted.Text c u)
-      → Decoded m s at b a (Quoted.Text c u)
+  pub decoded-text : {text : Text} {c : Cursor} {u : TextAt} → m ≡ ok text (c .at .0) → u .0 ≡ length text → Laid text b a
+      → TextFar (length s) at (Quoted.Text c u) → Decoded m s at b a (Quoted.Text c u)
   decoded-text {text} {c} {u} e size l f = record {
     is = ap (λ (n : ℕ). Quoted.Text c (sized n)) size ∙ ap quotedOf (sym e);
     bytes = rw e l;
@@ -77,7 +77,8 @@ sooner len at p (Quoted.Text c u) h f = (omega arith, f .1, omega arith)
 sooner len at p (Quoted.Refused k x) h f = tt
 
 -- the same from a place before
-pub decoded-before : {m n : Scan Text} {s : List ℕ} {at p : ℕ} {b a : List ℕ} {r : Quoted} → n ≡ m → at ≤ p → Decoded m s p b a r → Decoded n s at b a r
+pub decoded-before : {m n : Scan Text} {s : List ℕ} {at p : ℕ} {b a : List ℕ} {r : Quoted} → n ≡ m → at ≤ p → Decoded m s p b a r
+    → Decoded n s at b a r
 decoded-before {m} {n} {s} {at} {p} {b} {a} {r} e h d = record {
   is = d .is ∙ ap quotedOf (sym e);
   bytes = rw e (d .bytes);

@@ -16,8 +16,8 @@ use Rattle.strings.specs.Units.{Laid}
 use Rattle.chars.specs.declared.TextAt.{TextAt}
 use Rattle.strings.specs.declared.Quoted.{Quoted}
 use Rattle.strings.specs.declared.Piece.{Piece}
-use Rattle.strings.specs.declared.Three.{Three}
-use Rattle.strings.specs.declared.Run.{Run}
+use Rattle.strings.specs.declared.triple.Three.{Three}
+use Rattle.strings.specs.declared.triple.Run.{Run}
 
 -- so many bytes of decoded text
 abbrev pub sized : ℕ → TextAt

@@ -8,11 +8,11 @@ use Rattle.rules.specs.Bytes.{Text}
 use Rattle.rules.specs.Refusals.{placed, Scan, ok, fail}
 use Rattle.rules.specs.Utf8.{encoded}
 use Rattle.rules.specs.Strings.{hexDigit, hexFrom, expect, paired, letterEscape}
-use Rattle.strings.specs.declared.Hex.{Hex}
-use Rattle.strings.specs.declared.Unit.{Unit as CodeUnit}
-use Rattle.strings.specs.declared.Expected.{Expected}
-use Rattle.strings.specs.declared.CodePoint.{CodePoint}
-use Rattle.strings.specs.declared.Letter.{Letter}
+use Rattle.strings.specs.declared.units.Hex.{Hex}
+use Rattle.strings.specs.declared.units.Unit.{Unit as CodeUnit}
+use Rattle.strings.specs.declared.escapes.Expected.{Expected}
+use Rattle.strings.specs.declared.escapes.CodePoint.{CodePoint}
+use Rattle.strings.specs.declared.escapes.Letter.{Letter}
 
 -- ---- one character
 
