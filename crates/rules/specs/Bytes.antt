@@ -8,9 +8,13 @@ use lib.ListN.{getD}
 abbrev pub Text : Type 0
 Text = List ℕ
 
--- the byte at a place; past the end 256, which no byte is (00 is an ordinary one)
+-- what stands past the end: no byte is 256 (00 is an ordinary one)
+abbrev pub noByte : ℕ
+noByte = 256
+
+-- the byte at a place
 abbrev pub byteAt : List ℕ → ℕ → ℕ
-byteAt s at = getD s at 256
+byteAt s at = getD s at noByte
 
 abbrev pub within : ℕ → ℕ → ℕ → Bool
 within low high b = leb low b && leb b high
@@ -23,6 +27,7 @@ same (a ∷ xs) [] = false
 same (a ∷ xs) (b ∷ bs) = elim (eqb a b) [ true ↦ same xs bs | false ↦ false ]
 
 -- The first place, from a place on, that a test does not pass, by steps from one place to the next; at most so many steps are made.
+-- As many as the text has bytes are enough: each step goes forward, and no test passes at the end (module Skips of Theory).
 unfoldable pub skip : (ℕ → Bool) → (ℕ → ℕ) → ℕ → ℕ → ℕ
 skip test step zero at = at
 skip test step (suc n) at = elim (test at) [ true ↦ skip test step n (step at) | false ↦ at ]

@@ -6,7 +6,7 @@ use mathlib.Core.List.{List}
 use mathlib.Core.Bool.{Bool, true, false, not, _&&_, _||_}
 use lib.Dec.{ltb, eqb}
 use lib.ListN.{length}
-use Rattle.rules.specs.Bytes.{byteAt, within, skip}
+use Rattle.rules.specs.Bytes.{noByte, byteAt, within, skip}
 
 -- past the end there is no character; this is no code point
 abbrev pub noCharacter : ℕ
@@ -25,7 +25,8 @@ unfoldable pub next : List ℕ → ℕ → ℕ
 unfolding widthOf
 next s at = min (at + widthOf (byteAt s at)) (length s)
 
--- A character of several bytes is from U+0080 to U+10FFFF. Of well-formed bytes that goes without saying; so it holds of any.
+-- A character of several bytes is from U+0080 to U+10FFFF, whatever the bytes. In a job this changes nothing: the text is well-formed
+-- there, and its characters are in that range anyway.
 abbrev pub ofSeveral : ℕ → ℕ
 ofSeveral c = min 1114111 (max 128 c)
 
@@ -39,7 +40,7 @@ characterAt s at =
         | true ↦ ofSeveral (lead % 32 * 64 + byteAt s (at + 1) % 64)
         | false ↦ elim (ltb lead 240) [
           | true ↦ ofSeveral (lead % 16 * 4096 + byteAt s (at + 1) % 64 * 64 + byteAt s (at + 2) % 64)
-          | false ↦ elim (ltb lead 256) [
+          | false ↦ elim (ltb lead noByte) [
             | true ↦
                 ofSeveral
                 (lead % 8 * 262144 + byteAt s (at + 1) % 64 * 4096 + byteAt s (at + 2) % 64 * 64 + byteAt s (at + 3) % 64)
@@ -82,6 +83,7 @@ pub record Gap : Type 0 where
   pub place : ℕ
   pub newline : Bool
 
+-- as many steps as the text has bytes are enough: each goes forward, and none is made at the end (module Places of Theory)
 unfoldable pub gapFrom : ℕ → List ℕ → ℕ → Bool → Gap
 unfolding next characterAt startsComment lineEnd
 gapFrom zero s at newline = record { place = at; newline = newline }

@@ -1,23 +1,19 @@
 -- Document 01, "The sheet": "a sheet is accepted exactly if each blend has at most one entry, each entry is what the rules give its blend
 -- with all needed blends taken from earlier entries, the table is the root's value with needed blends taken from the trail, within its
 -- size, and the layout is exact; otherwise it is not."
-use Prim.Native.Nat.{ℕ, zero, suc, _+_, _*_}
+use Prim.Native.Nat.{ℕ, zero, suc, _+_}
 use mathlib.Core.List.{List, [], _∷_, _++_}
 use mathlib.Core.Bool.{Bool, true, false, _&&_}
 use mathlib.Core.Option.{Option, none, some}
 use lib.Dec.{ltb}
 use lib.ListN.{length}
 use Rattle.answers.specs.Ask.{Trail, lookup, Out, value, refused, missing, run}
-use Rattle.rules.specs.Bytes.{Text, byteAt, same}
+use Rattle.rules.specs.Bytes.{same}
 use Rattle.rules.specs.Refusals.{Refusal}
 use Rattle.rules.specs.Values.{Value, Answer, withinSize}
 use Rattle.rules.specs.Unresolved.{rootValue}
 use Rattle.rules.specs.Documents.{Setting, ruleOf}
-use Rattle.rules.specs.Sheet.{records, texts, trailSize, trailTextSize, trailRecords, trailTexts}
-
--- the number of the entry that begins at a place
-unfoldable pub numberIn : List ℕ → ℕ → ℕ
-numberIn trail at = byteAt trail (at + 1) * 256 + byteAt trail (at + 2)
+use Rattle.rules.specs.Sheet.{pairAt, records, texts, trailSize, trailTextSize, trailRecords, trailTexts}
 
 -- an answer, where the rules give one
 abbrev pub answerIn : Out Refusal Answer → Option Answer
@@ -30,15 +26,16 @@ unfoldable pub answerFor : Setting → Trail Answer → ℕ → Option Answer
 unfolding ruleOf
 answerFor x S b = elim (lookup S b) [ some a ↦ none | none ↦ answerIn (run (lookup S) (ruleOf x b)) ]
 
--- The entries that the trail's numbers call for, each found from those before it. The next entry begins where those so far end.
+-- The entries that the trail's numbers call for, each found from those before it. The next entry begins where those so far end. As many
+-- steps as the trail has bytes are enough: an entry has some, and none is called for at the end (module Entries of Theory).
 unfoldable pub entriesFrom : ℕ → Setting → List ℕ → Trail Answer → Option (Trail Answer)
-unfolding numberIn answerFor trailSize
+unfolding pairAt answerFor trailSize
 entriesFrom zero x trail S = some S
 entriesFrom (suc n) x trail S =
     elim (ltb (trailSize S) (length trail)) [
       | false ↦ some S
       | true ↦
-          let b = numberIn trail (trailSize S) in
+          let b = pairAt trail (trailSize S + 1) in
           elim (answerFor x S b) [ none ↦ none | some a ↦ entriesFrom n x trail ((b, a) ∷ S) ]
     ]
 

@@ -12,11 +12,12 @@ use Rattle.rules.specs.Values.{Value, Answer, withinSize}
 use Rattle.rules.specs.Unresolved.{rootValue}
 use Rattle.rules.specs.Documents.{Setting, given, inputs}
 use Rattle.rules.specs.Meaning.{MeanTheSame}
-use Rattle.rules.specs.Jobs.{Resolved, resolveJob, Verdict, checkJob, orderOf}
+use Rattle.rules.specs.Jobs.{Resolved, resolveJob, buffersOf, Verdict, checkJob, orderOf}
 use Rattle.rules.specs.Counting.{entriesIn}
 use Rattle.rules.specs.Reordering.{LaidOut, Reordering, InOrder}
 use Rattle.rules.specs.Theory.Jobs.{approval-inv, approval-is, approval-yes}
 use Rattle.rules.specs.Theory.BothJobs.{resolved-approval, approval-resolves, approval-means, same-at-256, same-in-longer}
+use Rattle.rules.specs.Theory.Buffers.{buffers-sized}
 use Rattle.rules.specs.Theory.Reordered.{one-sheet, approval-laid-out, approval-rules, rules-approval, reordering-in-order, reordering-approval}
 use Rattle.rules.specs.Theory.Counts.{resolved-count}
 
@@ -116,6 +117,12 @@ pub budget-enough : (document environment : List ℕ) (budget trailLength tableL
     → Succeeds (resolveJob document environment budget trailLength tableLength textLength)
     → resolveJob document environment 256 trailLength tableLength textLength ≡ resolveJob document environment budget trailLength tableLength textLength
 budget-enough d e budget l m n ok = same-at-256 d e budget l m n ok
+
+-- the bytes of the buffers that resolve leaves are as many as were lent: what it uses fits
+pub buffers-keep-size : (document environment : List ℕ) (budget trailLength tableLength textLength : ℕ)
+    → let b = buffersOf trailLength tableLength textLength (resolveJob document environment budget trailLength tableLength textLength) in
+    (length (b .trail) ≡ trailLength) × (length (b .table) ≡ tableLength) × (length (b .text) ≡ textLength)
+buffers-keep-size d e budget l m n = buffers-sized d e budget l m n
 
 -- buffers of 32,768 bytes and more are all full-size
 pub buffers-full : (document environment : List ℕ) (budget trailLength tableLength textLength : ℕ)

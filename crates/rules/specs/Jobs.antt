@@ -1,10 +1,10 @@
 -- Document 01, "The three jobs".
-use Prim.Native.Nat.{ℕ, _+_, _-_, min}
-use mathlib.Core.List.{List, [], _∷_, _++_}
-use mathlib.Core.Bool.{Bool, true, false, _&&_}
+use Prim.Native.Nat.{ℕ, _-_, min}
+use mathlib.Core.List.{List, [], _++_}
+use mathlib.Core.Bool.{true, false, _&&_}
 use mathlib.Core.Option.{Option, none, some}
 use lib.Dec.{leb}
-use lib.ListN.{length}
+use lib.ListN.{length, replicate}
 use Rattle.answers.specs.Ask.{Trail}
 use Rattle.answers.specs.Resolve.{Rules, Res, answer, stop, dry, resolve}
 use Rattle.rules.specs.Sizes.{maxBudget, maxPathText, maxNesting, maxRoom}
@@ -21,7 +21,7 @@ use Rattle.rules.specs.LookUp.{isWhole, afterValue, valueNamed}
 
 -- ---- "Resolve: document, environment and budget in; trail, table, text and a count out."
 
--- the used parts; on a refusal they are empty and the count is 0
+-- the used parts; on a refusal they are empty
 pub record Resolved : Type 0 where
   pub number : ℕ
   pub place : ℕ
@@ -30,6 +30,7 @@ pub record Resolved : Type 0 where
   pub table : List ℕ
   pub text : List ℕ
 
+-- "A refusal's count is 0."
 unfoldable pub refusedWith : Refusal → Resolved
 refusedWith x = record { number = numberOf x; place = placeOf x; count = 0; trail = []; table = []; text = [] }
 
@@ -37,7 +38,8 @@ refusedWith x = record { number = numberOf x; place = placeOf x; count = 0; trai
 abbrev pub roomOf : ℕ → ℕ
 roomOf length = min length maxRoom
 
--- "A needed blend is taken from the trail; else 10; else 12; else it is begun, and when answered becomes the next entry."
+-- "A needed blend is taken from the trail; else 10; else 12; else it is begun, and when answered becomes the next entry." "loops of
+-- optional names are 10 too".
 unfoldable pub orderOf : Setting → ℕ → ℕ → Rules Refusal Answer
 unfolding ruleOf firstByte trailFits
 orderOf x trailRoom textRoom = record {
@@ -48,6 +50,17 @@ orderOf x trailRoom textRoom = record {
   fits = trailFits trailRoom textRoom;
 }
 
+-- what is handed back on success: the root's value, the trail and the count
+abbrev pub sheetFor : Value → Trail Answer → ℕ → Resolved
+sheetFor v S n = record {
+  number = 0;
+  place = 0;
+  count = n;
+  trail = trailRecords S;
+  table = records (trailTextSize S) v;
+  text = trailTexts S ++ texts v;
+}
+
 -- "After the trail, the table's size is tested (13), then it is written (14)."
 unfoldable pub handedBack : ℕ → ℕ → Res Refusal Answer Value → Resolved
 unfolding withinSize tableFits refusedWith records texts trailTextSize trailRecords trailTexts
@@ -56,17 +69,7 @@ handedBack tableRoom textRoom dry = refusedWith spent
 handedBack tableRoom textRoom (answer v S n) =
     elim (withinSize v) [
       | false ↦ refusedWith (nowhere 13)
-      | true ↦ elim (tableFits tableRoom textRoom S v) [
-        | false ↦ refusedWith (nowhere 14)
-        | true ↦ record {
-          number = 0;
-          place = 0;
-          count = n;
-          trail = trailRecords S;
-          table = records (trailTextSize S) v;
-          text = trailTexts S ++ texts v;
-        }
-      ]
+      | true ↦ elim (tableFits tableRoom textRoom S v) [ false ↦ refusedWith (nowhere 14) | true ↦ sheetFor v S n ]
     ]
 
 unfoldable pub resolved : ℕ → ℕ → ℕ → ℕ → Input Setting → Resolved
@@ -82,7 +85,26 @@ resolveJob document environment budget trailLength tableLength textLength =
     resolved budget (roomOf trailLength) (roomOf tableLength) (roomOf textLength)
     (inputs (leb budget maxBudget) document environment)
 
--- ---- "Check: document, environment and a sheet in; yes, or a refusal: 1 to 8 and a reading 11 as in resolve, else 17."
+-- "Bytes not used are zero, after success too": what a lent output buffer of this size holds afterwards
+unfoldable pub filled : ℕ → List ℕ → List ℕ
+filled size used = used ++ replicate (size - length used) 0
+
+-- The output buffers after resolve, of any sizes, refused or not: every byte of them. This is what the code's contract will name.
+pub record Buffers : Type 0 where
+  pub trail : List ℕ
+  pub table : List ℕ
+  pub text : List ℕ
+
+unfoldable pub buffersOf : ℕ → ℕ → ℕ → Resolved → Buffers
+unfolding filled
+buffersOf trailLength tableLength textLength r = record {
+  trail = filled trailLength (r .trail);
+  table = filled tableLength (r .table);
+  text = filled textLength (r .text);
+}
+
+-- ---- "Check: document, environment and a sheet (exactly those three parts, no spare tail) in; yes, or a refusal: 1 to 8 and a reading 11
+-- as in resolve, else 17."
 
 pub record Verdict : Type 0 where
   pub number : ℕ

@@ -1,12 +1,12 @@
 -- Document 01, "Resolving": layers of a path and the value of a path, as computations that may need answers of unresolved values.
-use Prim.Native.Nat.{ℕ, zero, suc, _+_}
+use Prim.Native.Nat.{ℕ, zero, suc}
 use mathlib.Core.List.{List, [], _∷_, _++_, reverse}
 use mathlib.Core.Bool.{Bool, true, false}
-use mathlib.Core.Option.{Option, none, some}
+use mathlib.Core.Option.{none, some}
 use Rattle.answers.specs.Ask.{Ask, done, refuse, need, bind}
 use Rattle.rules.specs.Bytes.{Text, same}
 use Rattle.rules.specs.Refusals.{Refusal, spent}
-use Rattle.rules.specs.Tree.{Scalar, Key, Node, simple, array, object, unresolved, Elements, no-elements, element, Fields, no-fields, field}
+use Rattle.rules.specs.Tree.{Node, simple, array, object, unresolved, Elements, no-elements, element, Fields, no-fields, field}
 use Rattle.rules.specs.Values.{Value, scalar, arrayOf, objectOf, Values, no-values, val, Members, no-members, member, Answer}
 
 -- a computation of the rules
@@ -74,6 +74,7 @@ pub data Counted : Type 0 where
   one : Layer → Counted
   merged : List Layer → Counted
 
+-- "Nothing left means undefined."
 unfoldable pub ofObjects : List Layer → Counted
 ofObjects [] = nothing
 ofObjects (o ∷ os) = merged (o ∷ os)
@@ -84,30 +85,30 @@ ofOther l [] = one l
 ofOther l (o ∷ os) = merged (o ∷ os)
 
 -- one layer, the objects above it lowest first, and how to go on below
-unfoldable pub countValue : Value → List Layer → (List Layer → Work Counted) → Work Counted
+unfoldable pub takeValue : Value → List Layer → (List Layer → Work Counted) → Work Counted
 unfolding ofOther
-countValue (scalar x) os go = done (ofOther (settled (scalar x)) (reverse os))
-countValue (arrayOf vs) os go = done (ofOther (settled (arrayOf vs)) (reverse os))
-countValue (objectOf ms) os go = go (settled (objectOf ms) ∷ os)
+takeValue (scalar x) os go = done (ofOther (settled (scalar x)) (reverse os))
+takeValue (arrayOf vs) os go = done (ofOther (settled (arrayOf vs)) (reverse os))
+takeValue (objectOf ms) os go = go (settled (objectOf ms) ∷ os)
 
-unfoldable pub countAnswer : Answer → List Layer → (List Layer → Work Counted) → Work Counted
-unfolding countValue
-countAnswer none os go = go os
-countAnswer (some v) os go = countValue v os go
+unfoldable pub takeAnswer : Answer → List Layer → (List Layer → Work Counted) → Work Counted
+unfolding takeValue
+takeAnswer none os go = go os
+takeAnswer (some v) os go = takeValue v os go
 
-unfoldable pub countLayer : Layer → List Layer → (List Layer → Work Counted) → Work Counted
-unfolding countValue countAnswer ofOther
-countLayer (settled v) os go = countValue v os go
-countLayer (written (simple x)) os go = done (ofOther (written (simple x)) (reverse os))
-countLayer (written (array es)) os go = done (ofOther (written (array es)) (reverse os))
-countLayer (written (object fs)) os go = go (written (object fs) ∷ os)
-countLayer (written (unresolved b ps)) os go = need b (λ a. countAnswer a os go)
+unfoldable pub takeLayer : Layer → List Layer → (List Layer → Work Counted) → Work Counted
+unfolding takeValue takeAnswer ofOther
+takeLayer (settled v) os go = takeValue v os go
+takeLayer (written (simple x)) os go = done (ofOther (written (simple x)) (reverse os))
+takeLayer (written (array es)) os go = done (ofOther (written (array es)) (reverse os))
+takeLayer (written (object fs)) os go = go (written (object fs) ∷ os)
+takeLayer (written (unresolved b ps)) os go = need b (λ a. takeAnswer a os go)
 
 unfoldable pub gather : Layers → List Layer → Work Counted
-unfolding ofObjects countLayer
+unfolding ofObjects takeLayer
 gather end os = done (ofObjects (reverse os))
 gather (wait b f) os = need b (λ a. gather (f a) os)
-gather (layer l rest) os = countLayer l os (λ os′. gather rest os′)
+gather (layer l rest) os = takeLayer l os (λ os′. gather rest os′)
 
 -- ---- "each key's value is taken in order of first appearance, lowest counted layer first (undefined fields appear too)"
 
@@ -141,10 +142,10 @@ layerKeys (written (array es)) ks = ks
 layerKeys (written (object fs)) ks = fieldKeys fs ks
 layerKeys (written (unresolved b ps)) ks = ks
 
-unfoldable pub keysOf : List Layer → List Text
+unfoldable pub keysInOrder : List Layer → List Text
 unfolding layerKeys
-keysOf [] = []
-keysOf (o ∷ os) = layerKeys o (keysOf os)
+keysInOrder [] = []
+keysInOrder (o ∷ os) = layerKeys o (keysInOrder os)
 
 unfoldable pub layersOf : List Layer → Layers
 layersOf [] = end
@@ -168,11 +169,11 @@ module _ (eval : Layers → Work Answer) where
   membersOf ls (k ∷ ks) = bind (eval (deeper k ls)) (λ a. bind (membersOf ls ks) (λ ms. done (madeMember k a ms)))
 
   unfoldable pub mergedOf : List Layer → Work Value
-  unfolding membersOf layersOf keysOf
-  mergedOf os = bind (membersOf (layersOf os) (keysOf os)) (λ ms. done (objectOf ms))
+  unfolding membersOf layersOf keysInOrder
+  mergedOf os = bind (membersOf (layersOf os) (keysInOrder os)) (λ ms. done (objectOf ms))
 
-  -- a node that is no path's: an element, a piece of an unresolved value, what such an array holds. "All other objects (in arrays, or
-  -- pieces of blends) are closed: small roots of their own for layers."
+  -- The value of a node that is no path's: an element, or a piece of an unresolved value. "All other objects (in arrays, or pieces of
+  -- blends) are closed: small roots of their own for layers." Also a path's own simple value or array, which has no layers to merge.
   unfoldable mutual
     pub nodeValue : Node → Work Answer
     nodeValue (simple x) = done (some (scalar x))

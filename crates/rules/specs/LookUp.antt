@@ -1,17 +1,14 @@
 -- Document 01, "The sheet": whole tables, and the part of a table that a path names.
-use Prim.Native.Nat.{ℕ, zero, suc, _+_, _-_, _*_}
+use Prim.Native.Nat.{ℕ, zero, suc, _+_}
 use mathlib.Core.List.{List, [], _∷_}
-use mathlib.Core.Bool.{Bool, true, false, _&&_, _||_}
+use mathlib.Core.Bool.{Bool, true, false, _&&_}
 use mathlib.Core.Option.{Option, none, some}
 use lib.Dec.{leb, eqb}
 use lib.ListN.{length}
 use lib.Seq.{slice}
 use Rattle.rules.specs.Sizes.{maxNesting}
 use Rattle.rules.specs.Bytes.{Text, byteAt, within, same}
-
--- two bytes as a number
-unfoldable pub pairAt : List ℕ → ℕ → ℕ
-pairAt s at = byteAt s at * 256 + byteAt s (at + 1)
+use Rattle.rules.specs.Sheet.{pairAt}
 
 -- a record that refers to a text: of this kind, and "each text inside the lent text part"
 unfoldable pub afterText : List ℕ → ℕ → ℕ → ℕ → Option ℕ

@@ -7,7 +7,8 @@ use mathlib.Core.Bool.{true, false, _&&_, _||_}
 use lib.Dec.{leb, eqb}
 use lib.ListN.{length, drop}
 use Rattle.rules.specs.Bytes.{Text, byteAt, within}
-use Rattle.rules.specs.LookUp.{pairAt, textAt}
+use Rattle.rules.specs.Sheet.{pairAt}
+use Rattle.rules.specs.LookUp.{textAt}
 
 -- a record, in all but its text offset
 pub data Record : Type 0 where

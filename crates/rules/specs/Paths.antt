@@ -4,18 +4,17 @@ use Prim.Native.Nat.{ℕ, zero, suc, _+_}
 use mathlib.Core.List.{List, [], _∷_, _++_, map}
 use mathlib.Core.Bool.{Bool, true, false, _&&_, _||_}
 use mathlib.Core.Option.{Option, none, some}
-use lib.Dec.{leb, ltb, eqb}
+use lib.Dec.{ltb, eqb}
 use lib.ListN.{length, getElem?}
 use lib.Seq.{slice}
 use Rattle.rules.specs.Sizes.{maxPath}
-use Rattle.rules.specs.Bytes.{Text, byteAt, same}
-use Rattle.rules.specs.Refusals.{Refusal, placed, spent, Scan, ok, fail, andThen}
+use Rattle.rules.specs.Bytes.{Text, byteAt}
+use Rattle.rules.specs.Refusals.{Refusal, placed, spent, notAllowed, Scan, ok, fail, andThen}
 use Rattle.rules.specs.Characters.{afterInline}
-use Rattle.rules.specs.Strings.{ended}
-use Rattle.rules.specs.Pieces.{Form, quoted, unquoted, plain, Token, startsSimple, startsWith, simpleAt, scalarText}
+use Rattle.rules.specs.Pieces.{Token, stopsUnquoted, startsSimple, startsWith, simpleAt, scalarText}
 use Rattle.rules.specs.Tree.{Key, Substitution}
 
--- what stands between two pieces, or one piece: a quoted one's text, of any other the bytes as written
+-- what stands between two pieces, or one piece: "simple pieces joined as text"
 pub record Segment : Type 0 where
   pub place : ℕ
   pub text : Text
@@ -24,13 +23,9 @@ pub record Segment : Type 0 where
 abbrev pub segment : ℕ → Text → Bool → Segment
 segment place text inQuotes = record { place = place; text = text; inQuotes = inQuotes }
 
-unfoldable pub segmentOf : List ℕ → ℕ → ℕ → Token → Segment
+unfoldable pub segmentOf : ℕ → Token → Segment
 unfolding scalarText
-segmentOf s at end t = elim (t .form) [
-  | quoted ↦ segment at (scalarText (t .scalar)) true
-  | unquoted ↦ segment at (slice at end s) false
-  | plain ↦ segment at (slice at end s) false
-]
+segmentOf at t = segment at (scalarText (t .scalar)) (t .inQuotes)
 
 -- the whitespace between pieces is kept
 unfoldable pub gapSegment : List ℕ → ℕ → ℕ → List Segment
@@ -39,37 +34,31 @@ gapSegment s from at = elim (ltb from at) [ true ↦ segment from (slice from at
 abbrev pub wordInclude : Text
 wordInclude = 105 ∷ 110 ∷ 99 ∷ 108 ∷ 117 ∷ 100 ∷ 101 ∷ []
 
--- number 6: "key's first piece is unquoted text: `include`, or starting `include.`"
-unfoldable pub isInclude : List ℕ → ℕ → ℕ → Token → Bool
-unfolding startsWith
-isInclude s at end t = elim (t .form) [
-  | quoted ↦ false
-  | unquoted ↦ startsWith wordInclude s at && (eqb end (at + 7) || eqb (byteAt s (at + 7)) 46)
-  | plain ↦ false
-]
+-- "key's first piece is unquoted text: `include`, or starting `include.`", of a key at this place
+unfoldable pub startsInclude : List ℕ → ℕ → Bool
+unfolding startsWith stopsUnquoted
+startsInclude s at = startsWith wordInclude s at && (stopsUnquoted s (at + 7) || eqb (byteAt s (at + 7)) 46)
 
 -- The segments of a path from a place on, up to the first byte that starts no further piece; `from` is the end of the piece before.
--- In a key "6 and a key's `$` are given at once", the first for its first piece.
-unfoldable pub segmentsFrom : ℕ → Bool → Bool → List ℕ → ℕ → ℕ → Scan (List Segment)
-unfolding startsSimple simpleAt isInclude segmentOf gapSegment afterInline
-segmentsFrom zero key first s from at = fail spent
-segmentsFrom (suc n) key first s from at =
+-- "any `$` in a key is 7", given at once.
+unfoldable pub segmentsFrom : ℕ → Bool → List ℕ → ℕ → ℕ → Scan (List Segment)
+unfolding startsSimple simpleAt segmentOf gapSegment afterInline
+segmentsFrom zero key s from at = fail spent
+segmentsFrom (suc n) key s from at =
     elim (key && eqb (byteAt s at) 36) [
       | true ↦ fail (placed 7 at)
       | false ↦ elim (startsSimple s at) [
         | false ↦ ok [] at
-        | true ↦ andThen (simpleAt s at) (λ t end.
-            elim (key && first && isInclude s at end t) [
-              | true ↦ fail (placed 6 at)
-              | false ↦ andThen (segmentsFrom n key false s end (afterInline s end)) (λ rest after.
-                  ok (gapSegment s from at ++ (segmentOf s at end t ∷ rest)) after)
-            ])
+        | true ↦
+            andThen (simpleAt s at) (λ t end.
+            andThen (segmentsFrom n key s end (afterInline s end)) (λ rest after.
+            ok (gapSegment s from at ++ (segmentOf at t ∷ rest)) after))
       ]
     ]
 
 unfoldable pub segmentsAt : Bool → List ℕ → ℕ → Scan (List Segment)
 unfolding segmentsFrom
-segmentsAt key s at = segmentsFrom (suc (length s)) key true s at at
+segmentsAt key s at = segmentsFrom (suc (length s)) key s at at
 
 -- an element of a path; an empty one is allowed only with a quoted piece in it
 pub record Element : Type 0 where
@@ -136,10 +125,6 @@ keysOf es = map (λ e. record { text = e .text; place = e .place }) es
 abbrev pub judged : {A : Type 0} → Option Refusal → A → ℕ → Scan A
 judged none a at = ok a at
 judged (some x) a at = fail x
-
--- number 3 at a byte that is not allowed, 4 at the end
-unfoldable pub notAllowed : List ℕ → ℕ → Refusal
-notAllowed s at = elim (leb (length s) at) [ true ↦ ended s | false ↦ placed 3 at ]
 
 -- a substitution's path up to its `}`, judged there
 unfoldable pub braced : List ℕ → ℕ → Bool → ℕ → Scan Substitution

@@ -4,13 +4,13 @@
 use Prim.Native.Nat.{ℕ, _+_}
 use mathlib.Core.List.{List, [], _∷_}
 use mathlib.Core.Bool.{Bool, true, false, not, _||_}
-use mathlib.Core.Option.{Option, none, some}
+use mathlib.Core.Option.{none, some}
 use lib.Dec.{eqb}
 use lib.ListN.{length}
 use lib.Seq.{slice}
 use Rattle.answers.specs.Ask.{mem}
 use Rattle.rules.specs.Bytes.{Text, byteAt, same, skip}
-use Rattle.rules.specs.Refusals.{Refusal, placed, Scan, ok, fail, andThen}
+use Rattle.rules.specs.Refusals.{placed, Scan, ok, fail, andThen}
 use Rattle.rules.specs.Characters.{noCharacter, next, characterAt, isSpace, startsComment}
 use Rattle.rules.specs.Numbers.{isDigit, afterNumber}
 use Rattle.rules.specs.Strings.{quotedAt}
@@ -40,16 +40,13 @@ unfoldable pub startsSimple : List ℕ → ℕ → Bool
 unfolding stopsUnquoted
 startsSimple s at = elim (eqb (byteAt s at) 34) [ true ↦ true | false ↦ not (stopsUnquoted s at) ]
 
--- how a simple piece is written: in quotes, as unquoted text, or as a number or word of JSON's
-pub data Form : Type 0 where
-  quoted unquoted plain : Form
-
+-- a simple piece: what it is, and whether it stands in quotes
 pub record Token : Type 0 where
-  pub form : Form
+  pub inQuotes : Bool
   pub scalar : Scalar
 
-abbrev pub token : Form → Scalar → Token
-token f x = record { form = f; scalar = x }
+abbrev pub token : Bool → Scalar → Token
+token q x = record { inQuotes = q; scalar = x }
 
 abbrev pub wordTrue : Text
 wordTrue = 116 ∷ 114 ∷ 117 ∷ 101 ∷ []
@@ -69,12 +66,12 @@ unfoldable pub unquotedAt : List ℕ → ℕ → Scan Token
 unfolding startsWith unquotedEnd
 unquotedAt s at =
     elim (startsWith wordTrue s at) [
-      | true ↦ ok (token plain (boolean true)) (at + 4)
+      | true ↦ ok (token false (boolean true)) (at + 4)
       | false ↦ elim (startsWith wordFalse s at) [
-        | true ↦ ok (token plain (boolean false)) (at + 5)
+        | true ↦ ok (token false (boolean false)) (at + 5)
         | false ↦ elim (startsWith wordNull s at) [
-          | true ↦ ok (token plain null) (at + 4)
-          | false ↦ let end = unquotedEnd s at in ok (token unquoted (string (slice at end s))) end
+          | true ↦ ok (token false null) (at + 4)
+          | false ↦ let end = unquotedEnd s at in ok (token false (string (slice at end s))) end
         ]
       ]
     ]
@@ -83,14 +80,14 @@ unquotedAt s at =
 unfoldable pub numberAt : List ℕ → ℕ → Scan Token
 unfolding afterNumber
 numberAt s at =
-    elim (afterNumber s at) [ none ↦ fail (placed 5 at) | some end ↦ ok (token plain (number (slice at end s))) end ]
+    elim (afterNumber s at) [ none ↦ fail (placed 5 at) | some end ↦ ok (token false (number (slice at end s))) end ]
 
 -- the simple piece at a place where one begins
 unfoldable pub simpleAt : List ℕ → ℕ → Scan Token
 unfolding quotedAt numberAt unquotedAt
 simpleAt s at =
     elim (eqb (byteAt s at) 34) [
-      | true ↦ andThen (quotedAt s at) (λ t end. ok (token quoted (string t)) end)
+      | true ↦ andThen (quotedAt s at) (λ t end. ok (token true (string t)) end)
       | false ↦ elim (isDigit (byteAt s at) || eqb (byteAt s at) 45) [ true ↦ numberAt s at | false ↦ unquotedAt s at ]
     ]
 

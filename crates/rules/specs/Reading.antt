@@ -1,37 +1,36 @@
 -- Document 01, "Reading": values, arrays, objects and the whole document, with every refusal's number, place and order.
 use Prim.Native.Nat.{ℕ, zero, suc, _+_, _-_, min}
 use mathlib.Core.List.{List, [], _∷_, _++_}
-use mathlib.Core.Bool.{Bool, true, false, _&&_, _||_}
+use mathlib.Core.Bool.{Bool, true, false, _||_}
 use mathlib.Core.Option.{Option, none, some}
-use lib.Dec.{leb, ltb, eqb}
+use lib.Dec.{ltb, eqb}
 use lib.ListN.{length}
 use lib.Seq.{slice}
-use Rattle.rules.specs.Sizes.{maxNesting, maxItems, maxPath, maxDocument}
-use Rattle.rules.specs.Bytes.{Text, byteAt}
-use Rattle.rules.specs.Refusals.{Refusal, placed, spent, Scan, ok, fail, Read, got, rejected, readThen, counting}
-use Rattle.rules.specs.Characters.{afterInline, Gap, gapAt, afterGap}
-use Rattle.rules.specs.Strings.{ended}
-use Rattle.rules.specs.Pieces.{Token, startsSimple, simpleAt, scalarText}
-use Rattle.rules.specs.Paths.{Segment, segmentsAt, Element, elementsOf, judge, keysOf, notAllowed, substitutionAt}
+use Rattle.rules.specs.Sizes.{maxNesting, maxItems, maxPath}
+use Rattle.rules.specs.Bytes.{Text, noByte, byteAt}
+use Rattle.rules.specs.Refusals.{Refusal, placed, spent, ended, notAllowed, Scan, ok, fail, Read, got, rejected, readThen, counting}
+use Rattle.rules.specs.Characters.{afterInline, gapAt, afterGap}
+use Rattle.rules.specs.Pieces.{startsSimple, simpleAt, scalarText}
+use Rattle.rules.specs.Paths.{startsInclude, segmentsAt, Element, elementsOf, judge, keysOf, substitutionAt}
 use Rattle.rules.specs.Tree.{Scalar, string, Key, Substitution, Node, simple, array, object, unresolved, Elements, no-elements, element, Fields, no-fields, field, Pieces, no-pieces, literal, substituted, Root, fields, elements, joinElements, joinFields}
 
 -- ---- pieces
 
 -- what begins at a place of a value: "a `$` without `{`" starts no piece
 pub data Start : Type 0 where
-  brace bracket dollar scalar nothing : Start
+  brace bracket dollar scalar : Start
 
-unfoldable pub startOf : List ℕ → ℕ → Start
+unfoldable pub startOf : List ℕ → ℕ → Option Start
 unfolding startsSimple
 startOf s at =
     let b = byteAt s at in
     elim (eqb b 123) [
-      | true ↦ brace
+      | true ↦ some brace
       | false ↦ elim (eqb b 91) [
-        | true ↦ bracket
+        | true ↦ some bracket
         | false ↦ elim (eqb b 36) [
-          | true ↦ elim (eqb (byteAt s (at + 1)) 123) [ true ↦ dollar | false ↦ nothing ]
-          | false ↦ elim (startsSimple s at) [ true ↦ scalar | false ↦ nothing ]
+          | true ↦ elim (eqb (byteAt s (at + 1)) 123) [ true ↦ some dollar | false ↦ none ]
+          | false ↦ elim (startsSimple s at) [ true ↦ some scalar | false ↦ none ]
         ]
       ]
     ]
@@ -55,17 +54,13 @@ unfoldable pub piecesFrom : ℕ → (Start → ℕ → ℕ → Read Part) → Li
 unfolding startOf counted afterInline
 piecesFrom zero pieceAt s from at items = rejected spent
 piecesFrom (suc n) pieceAt s from at items =
-    let more : Start → Read Pieces = λ start.
-    counted items at (λ items₁.
-    readThen (pieceAt start at items₁) (λ part end items₂.
-    readThen (piecesFrom n pieceAt s end (afterInline s end) items₂) (λ ps after items₃.
-    got (withPart at (slice from at s) part ps) after items₃))) in
     elim (startOf s at) [
-      | brace ↦ more brace
-      | bracket ↦ more bracket
-      | dollar ↦ more dollar
-      | scalar ↦ more scalar
-      | nothing ↦ got no-pieces at items
+      | none ↦ got no-pieces at items
+      | some start ↦
+          counted items at (λ items₁.
+          readThen (pieceAt start at items₁) (λ part end items₂.
+          readThen (piecesFrom n pieceAt s end (afterInline s end) items₂) (λ ps after items₃.
+          got (withPart at (slice from at s) part ps) after items₃)))
     ]
 
 -- ---- what pieces make
@@ -147,7 +142,8 @@ joined (array es) all rest = array (elementsJoined all)
 joined (object fs) all rest = object (fieldsJoined all)
 joined (unresolved b ps) all rest = unresolved b ps
 
--- "A value with one is a blend"; its number is given later. Else kinds are compared: "A reading 11 is given at the end of its value".
+-- "A value with one is a blend"; its number is given later. Else kinds are compared: "A reading 11 is given at the end of its value";
+-- "a key or value is judged before the byte that starts no further piece of it, or the end, is".
 unfoldable pub judgeValue : Pieces → ℕ → ℕ → Read Node
 unfolding hasSubstitution unlike joined kindOf
 judgeValue no-pieces at items = rejected spent
@@ -165,7 +161,7 @@ judgeValue (literal place gap n ps) at items =
 
 -- the byte that closes an object without braces is the end
 abbrev pub theEnd : ℕ
-theEnd = 256
+theEnd = noByte
 
 unfoldable pub afterClosing : ℕ → ℕ → ℕ
 afterClosing closing at = elim (eqb closing theEnd) [ true ↦ at | false ↦ at + 1 ]
@@ -206,16 +202,17 @@ unfoldable pub membersAt : {A : Type 0} → ℕ → (ℕ → ℕ → Read A) →
 unfolding membersFrom gapAt
 membersAt closing memberAt s at items = membersFrom (suc (length s)) closing memberAt s (afterGap s at) items
 
--- "`a.b = 1` means `a { b = 1 }`."
-pub record Member : Type 0 where
+-- a field that was read
+pub record FieldRead : Type 0 where
   pub key : Key
   pub value : Node
 
-unfoldable pub expanded : Key → List Key → Node → Member
-expanded k [] n = record { key = k; value = n }
-expanded k (j ∷ js) n = let m = expanded j js n in record { key = k; value = object (field (m .key) (m .value) no-fields) }
+-- "`a.b = 1` means `a { b = 1 }`": a value inside the objects that further key elements open
+unfoldable pub inside : List Key → Node → Node
+inside [] n = n
+inside (k ∷ ks) n = object (field k (inside ks n) no-fields)
 
-unfoldable pub fieldsOf : List Member → Fields
+unfoldable pub fieldsOf : List FieldRead → Fields
 fieldsOf [] = no-fields
 fieldsOf (m ∷ ms) = field (m .key) (m .value) (fieldsOf ms)
 
@@ -244,43 +241,42 @@ unfoldable pub opened : {A : Type 0} → ℕ → ℕ → (ℕ → Read A) → Re
 opened nesting at k = elim (ltb nesting maxNesting) [ true ↦ k (nesting + 1) | false ↦ rejected (placed 8 at) ]
 
 module _ (valueAt : ℕ → ℕ → ℕ → Read Node) where
-  -- a field's key is judged before what follows it
-  unfoldable pub fieldWith : List ℕ → ℕ → ℕ → ℕ → List Key → Read Member
-  unfolding valuePlace expanded
+  -- behind a key that was judged good
+  unfoldable pub fieldWith : List ℕ → ℕ → ℕ → ℕ → List Key → Read FieldRead
+  unfolding valuePlace inside
   fieldWith s nesting at items [] = rejected spent
   fieldWith s nesting at items (k ∷ ks) =
       readThen (counting (items + suc (length ks)) (valuePlace s at)) (λ p place items₁.
       readThen (valueAt (nesting + length ks) place items₁) (λ n end items₂.
-      got (expanded k ks n) end items₂))
+      got (record { key = k; value = inside ks n }) end items₂))
 
-  unfoldable pub fieldJudged : List ℕ → ℕ → ℕ → ℕ → List Element → Option Refusal → Read Member
+  -- "a key or value is judged before the byte that starts no further piece of it, or the end, is"
+  unfoldable pub fieldJudged : List ℕ → ℕ → ℕ → ℕ → List Element → Option Refusal → Read FieldRead
   unfolding fieldWith
   fieldJudged s nesting at items es (some x) = rejected x
   fieldJudged s nesting at items es none = fieldWith s nesting at items (keysOf es)
 
-  -- "A key that starts with no piece is 3"
-  unfoldable pub fieldAt : List ℕ → ℕ → ℕ → ℕ → Read Member
-  unfolding fieldJudged segmentsAt elementsOf judge
+  -- "6 and a key's `$` are given at once"; "A key that starts with no piece is 3"
+  unfoldable pub fieldAt : List ℕ → ℕ → ℕ → ℕ → Read FieldRead
+  unfolding fieldJudged startsInclude segmentsAt elementsOf judge
   fieldAt s nesting at items =
-      readThen (counting items (segmentsAt true s at)) (λ gs end items₁.
-      elim gs [
-        | [] ↦ rejected (placed 3 end)
-        | g ∷ rest ↦
-            let es = elementsOf (g ∷ rest) in
-            fieldJudged s nesting end items₁ es (judge at (allowedKeys nesting items₁) es)
-      ])
+      elim (startsInclude s at) [
+        | true ↦ rejected (placed 6 at)
+        | false ↦
+            readThen (counting items (segmentsAt true s at)) (λ gs end items₁.
+            elim gs [
+              | [] ↦ rejected (placed 3 end)
+              | g ∷ rest ↦
+                  let es = elementsOf (g ∷ rest) in
+                  fieldJudged s nesting end items₁ es (judge at (allowedKeys nesting items₁) es)
+            ])
+      ]
 
-  -- "An element is counted with its first piece"
+  -- an element is counted with its first piece (docs/DECISIONS.md, R7)
   unfoldable pub elementAt : List ℕ → ℕ → ℕ → ℕ → Read Node
   unfolding counted startOf notAllowed
   elementAt s nesting at items =
-      elim (startOf s at) [
-        | brace ↦ counted items at (valueAt nesting at)
-        | bracket ↦ counted items at (valueAt nesting at)
-        | dollar ↦ counted items at (valueAt nesting at)
-        | scalar ↦ counted items at (valueAt nesting at)
-        | nothing ↦ rejected (notAllowed s at)
-      ]
+      elim (startOf s at) [ none ↦ rejected (notAllowed s at) | some start ↦ counted items at (valueAt nesting at) ]
 
   -- behind the opening byte of a container that opens the given nesting
   unfoldable pub arrayAt : List ℕ → ℕ → ℕ → ℕ → Read Elements
@@ -305,22 +301,16 @@ module _ (valueAt : ℕ → ℕ → ℕ → Read Node) where
       readThen (counting items (substitutionAt s at)) (λ x end items₁. got (substitution x) end items₁)
   pieceAt s nesting scalar at items =
       readThen (counting items (simpleAt s at)) (λ t end items₁. got (node (simple (t .scalar))) end items₁)
-  pieceAt s nesting nothing at items = rejected spent
 
--- A value in a container of the given nesting. The first number is how many containers more may be opened, one inside the other: at
--- most 32, so the recursion goes by it.
+-- A value in a container of the given nesting. The first number is how many values may stand inside one another: at most 32, as each but
+-- the last opens a nesting; so the recursion goes by it, and it is never used up (module ReadingEnds of Theory).
 unfoldable pub valueFrom : ℕ → List ℕ → ℕ → ℕ → ℕ → Read Node
 unfolding startOf piecesFrom pieceAt judgeValue notAllowed
 valueFrom zero s nesting at items = rejected spent
 valueFrom (suc depth) s nesting at items =
-    let pieces : Read Node =
-    readThen (piecesFrom (suc (length s)) (pieceAt (valueFrom depth s) s nesting) s at at items) judgeValue in
     elim (startOf s at) [
-      | brace ↦ pieces
-      | bracket ↦ pieces
-      | dollar ↦ pieces
-      | scalar ↦ pieces
-      | nothing ↦ rejected (notAllowed s at)
+      | none ↦ rejected (notAllowed s at)
+      | some start ↦ readThen (piecesFrom (suc (length s)) (pieceAt (valueFrom depth s) s nesting) s at at items) judgeValue
     ]
 
 -- "Root, after whitespace and comments: `{` or `[` and its partner, then only whitespace and comments; else an object without braces,
@@ -328,12 +318,12 @@ valueFrom (suc depth) s nesting at items =
 unfoldable pub rootAt : List ℕ → ℕ → Read Root
 unfolding valueFrom arrayAt objectAt
 rootAt s at =
-    let inside = valueFrom maxNesting s in
+    let valueAt = valueFrom maxNesting s in
     elim (eqb (byteAt s at) 123) [
-      | true ↦ readThen (objectAt inside 125 s 1 (at + 1) 0) (λ fs end items. got (fields fs) end items)
+      | true ↦ readThen (objectAt valueAt 125 s 1 (at + 1) 0) (λ fs end items. got (fields fs) end items)
       | false ↦ elim (eqb (byteAt s at) 91) [
-        | true ↦ readThen (arrayAt inside s 1 (at + 1) 0) (λ es end items. got (elements es) end items)
-        | false ↦ readThen (objectAt inside theEnd s 1 at 0) (λ fs end items. got (fields fs) end items)
+        | true ↦ readThen (arrayAt valueAt s 1 (at + 1) 0) (λ es end items. got (elements es) end items)
+        | false ↦ readThen (objectAt valueAt theEnd s 1 at 0) (λ fs end items. got (fields fs) end items)
       ]
     ]
 

@@ -1,5 +1,29 @@
 -- Document 01, "Numbers and places": refusals, and readings that may end in one.
 use Prim.Native.Nat.{ℕ}
+use mathlib.Core.List.{List}
+use mathlib.Core.Bool.{true, false}
+use lib.Dec.{leb}
+use lib.ListN.{length}
+
+-- The paper's numbers: when they are given, and by which definitions.
+--  1 an input over its bytes or against its rule, a part of a sheet too long: Documents.inputs, Jobs.lookUpJob
+--  2 ill-formed UTF-8: Documents.readDocument, Jobs.lookUpJob
+--  3 a byte that the grammar does not allow: `notAllowed`, Reading.{parted, fieldAt, readRoot}, Paths.pathText
+--  4 the end inside something open or a field: `ended`
+--  5 `-` starting no number: Pieces.numberAt; a bad escape or lone surrogate: Strings.escapeAt; a control byte: Strings.bodyFrom
+--  6 a key that starts with `include`: Reading.fieldAt
+--  7 a substitution in a key: Paths.segmentsFrom; an empty path or path element: Paths.judge
+--  8 too many items: Reading.counted; too deep: Reading.opened; too many key or path elements: Paths.judge; too many unresolved values:
+--    Documents.limited
+--  9 a required substitution that is undefined: Unresolved.orEnvironment
+-- 10 an unresolved value needed while it is worked out: Jobs.orderOf
+-- 11 kinds mixed in one value: Reading.judgeValue, Unresolved.joinValue
+-- 12 one unresolved value more than the budget would begin: Jobs.orderOf
+-- 13 a value over its size: Unresolved.sized, Jobs.handedBack
+-- 14 an entry, the table or their text does not fit its room: Jobs.{orderOf, handedBack}
+-- 15 looked-up records that are not one whole table: Jobs.lookUpJob
+-- 16 a path that names nothing: Jobs.foundAt
+-- 17 a sheet that is not accepted: Jobs.verdict
 
 -- A refusal has its number, and a place in what is read or none (place 0 by the paper's table).
 pub data Refusal : Type 0 where
@@ -14,9 +38,18 @@ abbrev pub placeOf : Refusal → ℕ
 placeOf (placed number place) = place
 placeOf (nowhere number) = 0
 
--- What a definition gives where its fuel runs out. The paper has no number 0, and no job gives this refusal (modules ReadingEnds, Resolving and LookUps of Theory).
+-- What a definition gives where its fuel runs out. The paper has no number 0, and no job gives this refusal (modules ReadingEnds,
+-- Resolving and LookUps of Theory).
 abbrev pub spent : Refusal
 spent = nowhere 0
+
+-- number 4 at the length: the end stands here
+abbrev pub ended : List ℕ → Refusal
+ended s = placed 4 (length s)
+
+-- number 3 at a byte that is not allowed, 4 at the end
+unfoldable pub notAllowed : List ℕ → ℕ → Refusal
+notAllowed s at = elim (leb (length s) at) [ true ↦ ended s | false ↦ placed 3 at ]
 
 -- what a reading gives: a thing and the place after it, or a refusal
 pub data Scan (A : Type 0) : Type 0 where

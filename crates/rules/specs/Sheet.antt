@@ -1,19 +1,23 @@
 -- Document 01, "The sheet": "Each record is one byte of kind, then a body whose length the kind fixes; numbers high byte first." "The text
 -- part holds the texts of the trail's records, then the table's, in order, nothing shared, each starting where the one before ends."
-use Prim.Native.Nat.{ℕ, _+_, _/_, _%_}
+use Prim.Native.Nat.{ℕ, _+_, _*_, _/_, _%_}
 use mathlib.Core.List.{List, [], _∷_, _++_}
 use mathlib.Core.Bool.{Bool, true, false, _&&_}
-use mathlib.Core.Option.{Option, none, some}
+use mathlib.Core.Option.{none, some}
 use lib.Dec.{leb}
 use lib.ListN.{length}
 use Rattle.answers.specs.Ask.{Trail}
-use Rattle.rules.specs.Bytes.{Text}
+use Rattle.rules.specs.Bytes.{Text, byteAt}
 use Rattle.rules.specs.Tree.{Scalar, null, boolean, number, string}
 use Rattle.rules.specs.Values.{Value, scalar, arrayOf, objectOf, Values, no-values, val, Members, no-members, member, Answer, countValues, countMembers, ownText, recordSize, textSize}
 
 -- a number in two bytes
 unfoldable pub two : ℕ → List ℕ
 two n = n / 256 % 256 ∷ n % 256 ∷ []
+
+-- two bytes as a number
+unfoldable pub pairAt : List ℕ → ℕ → ℕ
+pairAt s at = byteAt s at * 256 + byteAt s (at + 1)
 
 -- "4 number, 5 string, 8 key: text offset 2, length 2"
 unfoldable pub textRecord : ℕ → ℕ → Text → List ℕ

@@ -6,16 +6,12 @@ use mathlib.Core.List.{List, [], _∷_, _++_}
 use mathlib.Core.Bool.{Bool, true, false, not, _&&_, _||_}
 use mathlib.Core.Option.{Option, none, some}
 use lib.Dec.{leb, ltb, eqb}
-use lib.ListN.{length, take, drop}
+use lib.ListN.{length}
 use lib.Seq.{slice}
 use Rattle.rules.specs.Bytes.{Text, byteAt, within, skip}
-use Rattle.rules.specs.Refusals.{Refusal, placed, spent, Scan, ok, fail, andThen}
+use Rattle.rules.specs.Refusals.{placed, spent, ended, Scan, ok, fail, andThen}
 use Rattle.rules.specs.Utf8.{encoded}
 use Rattle.rules.specs.Characters.{next}
-
--- the end stands here: number 4 at the length
-abbrev pub ended : List ℕ → Refusal
-ended s = placed 4 (length s)
 
 -- the value of a hexadecimal digit
 unfoldable pub hexDigit : ℕ → Option ℕ

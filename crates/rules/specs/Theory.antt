@@ -35,5 +35,6 @@ pub mod SheetLookUps
 -- the jobs: resolve and check held against each other
 pub mod Jobs
 pub mod BothJobs
+pub mod Buffers
 pub mod Reordered
 pub mod Counts

@@ -1,18 +1,18 @@
 -- Document 01, "Resolving": "Blend: pieces left to right, each worked out, then its size tested (13), its kind against the first defined
 -- one (11), and the size of the join so far (13)." A blend is an unresolved value here.
-use Prim.Native.Nat.{ℕ, zero, suc, _+_}
+use Prim.Native.Nat.{ℕ, _+_}
 use mathlib.Core.List.{List, [], _∷_, _++_}
-use mathlib.Core.Bool.{Bool, true, false}
+use mathlib.Core.Bool.{true, false}
 use mathlib.Core.Option.{Option, none, some}
-use lib.ListN.{length}
-use Rattle.answers.specs.Ask.{Ask, done, refuse, need, bind}
+use Rattle.answers.specs.Ask.{done, refuse, bind}
+use Rattle.rules.specs.Sizes.{maxNesting}
 use Rattle.rules.specs.Bytes.{Text, same}
-use Rattle.rules.specs.Refusals.{Refusal, placed, nowhere, spent}
+use Rattle.rules.specs.Refusals.{placed, nowhere}
 use Rattle.rules.specs.Environment.{Environment}
 use Rattle.rules.specs.Pieces.{scalarText}
-use Rattle.rules.specs.Tree.{Scalar, string, Key, Substitution, Node, simple, array, object, unresolved, Elements, no-elements, element, Fields, no-fields, field, Pieces, no-pieces, literal, substituted, Root, fields, elements, rootNode, firstPlace, heightOf}
+use Rattle.rules.specs.Tree.{string, Key, Substitution, Node, simple, array, object, unresolved, Elements, no-elements, element, Fields, no-fields, field, Pieces, no-pieces, literal, substituted, Root, fields, elements, rootNode, firstPlace, heightOf}
 use Rattle.rules.specs.Values.{Value, scalar, arrayOf, objectOf, Values, Members, Answer, joinValues, withinSize, mergeMembers}
-use Rattle.rules.specs.Layers.{Work, Layers, end, layer, Layer, written, named, deeper, walkPath, nodeValue, elementValues, mergedOf, valueOf}
+use Rattle.rules.specs.Layers.{Work, Layers, end, layer, written, named, deeper, walkPath, nodeValue, elementValues, mergedOf, valueOf}
 
 -- ---- where the unresolved values stand
 
@@ -33,7 +33,7 @@ abbrev pub Scope : Type 0
 Scope = Option Home
 
 -- The field of key k behind the fields `earlier` of its object: "earlier fields of that key in the same literal, then the literal's
--- lower layers".
+-- lower layers". "closed objects never look back".
 unfoldable pub fieldScope : Scope → Fields → Key → Scope
 unfolding named deeper
 fieldScope none earlier k = none
@@ -82,7 +82,7 @@ behind [] p = some p
 behind (k ∷ ks) [] = none
 behind (k ∷ ks) (j ∷ js) = elim (same k j) [ true ↦ behind ks js | false ↦ none ]
 
--- "Otherwise it looks forward": from the root
+-- "Otherwise it looks forward": from the root, whose layers are itself ("The root has one.")
 unfoldable pub forward : Root → List Text → Layers
 unfolding walkPath
 forward root p = walkPath p (layer (written (rootNode root)) end)
@@ -164,10 +164,10 @@ joinPiece place gap (some v) j =
 -- ---- the rules of one unresolved value
 
 module _ (root : Root) (env : Environment) where
-  -- how far values may go down inside one another: through the containers of the document, then those of an answer, at most 32
+  -- how far values may go down inside one another: through the containers of the document, then those of an answer, and one step more
   abbrev pub depthOf : ℕ
   unfolding heightOf
-  depthOf = heightOf (rootNode root) + 33
+  depthOf = heightOf (rootNode root) + maxNesting + 1
 
   abbrev pub evaluate : Layers → Work Answer
   unfolding heightOf valueOf

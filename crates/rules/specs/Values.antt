@@ -1,6 +1,6 @@
 -- Finished values: what resolving makes and what records describe; their sizes.
-use Prim.Native.Nat.{ℕ, zero, suc, _+_, max}
-use mathlib.Core.List.{List, [], _∷_, _++_}
+use Prim.Native.Nat.{ℕ, suc, _+_, max}
+use mathlib.Core.List.{[]}
 use mathlib.Core.Bool.{Bool, true, false, _&&_}
 use mathlib.Core.Option.{Option, none, some}
 use lib.Dec.{leb}
@@ -39,8 +39,8 @@ unfoldable pub joinValues : Values → Values → Values
 joinValues no-values ws = ws
 joinValues (val v vs) ws = val v (joinValues vs ws)
 
--- ---- sizes: "A value's size is that of its records and texts"; a simple value is nested 0, a container one more than its deepest
--- member
+-- ---- sizes: of a value's own records and texts (docs/DECISIONS.md, R23); a simple value is nested 0, a container one more than its
+-- deepest member (R22)
 
 unfoldable pub scalarRecords : Scalar → ℕ
 scalarRecords null = 1

@@ -7,7 +7,8 @@ use native.Mathlib.Omega.{arith}
 use lib.ListN.{length}
 use lib.Dec.{ltb, eqb}
 use borrow.Author.Tests.{le-leb, lt-leb, ltb-true, ltb-false, eq-eqb, ne-eqb}
-use Rattle.rules.specs.LookUp.{pairAt, afterText}
+use Rattle.rules.specs.Sheet.{pairAt}
+use Rattle.rules.specs.LookUp.{afterText}
 use Rattle.rules.specs.Theory.Places.{byte-past}
 use Rattle.chars.specs.Cursor.{ByteIs}
 use Rattle.sheet.specs.Records.{rec, PairIs, EndIs, kindOf, valueStart}

@@ -9,7 +9,8 @@ use lib.ListN.{length}
 use lib.Dec.{leb, ltb, eqb}
 use borrow.Author.Tests.{le-leb, lt-leb, leb-true, leb-false, ltb-true, ltb-false}
 use Rattle.rules.specs.Bytes.{byteAt, within}
-use Rattle.rules.specs.LookUp.{pairAt, afterText, afterMembers, afterRecord, afterValue, isWhole}
+use Rattle.rules.specs.Sheet.{pairAt}
+use Rattle.rules.specs.LookUp.{afterText, afterMembers, afterRecord, afterValue, isWhole}
 use Rattle.rules.specs.Theory.Places.{byte-past}
 use Rattle.chars.specs.Cursor.{ByteIs}
 use Rattle.sheet.specs.Records.{rec, PairIs, EndIs, kindOf, valueStart, membersEnd}

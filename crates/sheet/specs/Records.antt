@@ -7,7 +7,8 @@ use mathlib.Core.Option.{Option, none, some}
 use lib.Dec.{eqb}
 use lib.ListN.{length}
 use Rattle.rules.specs.Bytes.{within}
-use Rattle.rules.specs.LookUp.{pairAt, afterText, afterMembers, afterValue}
+use Rattle.rules.specs.Sheet.{pairAt}
+use Rattle.rules.specs.LookUp.{afterText, afterMembers, afterValue}
 use Rattle.chars.specs.declared.RecAt.{RecAt}
 use Rattle.sheet.specs.declared.End.{End}
 use Rattle.sheet.specs.declared.Kind.{Kind}

@@ -9,8 +9,8 @@ use lib.Dec.{ltb}
 use lib.ListN.{length, set}
 use borrow.Author.Tests.{le-leb, lt-leb, ltb-true, ltb-false}
 use Rattle.rules.specs.Bytes.{Text, byteAt}
-use Rattle.rules.specs.Refusals.{placed, ok}
-use Rattle.rules.specs.Strings.{ended, unicodeEscape, letterEscape, escapeAt}
+use Rattle.rules.specs.Refusals.{placed, ended, ok}
+use Rattle.rules.specs.Strings.{unicodeEscape, letterEscape, escapeAt}
 use Rattle.chars.specs.Cursor.{doc, StepIs}
 use Rattle.chars.specs.Seen.{Seen, seen, at-end, seen-eq, seen-ne}
 use Rattle.chars.specs.declared.DocAt.{DocAt}

@@ -7,9 +7,9 @@ use lib.ListN.{length}
 use lib.Seq.{slice, length-slice}
 use borrow.Author.Tests.{le-leb, lt-leb}
 use Rattle.rules.specs.Bytes.{Text}
-use Rattle.rules.specs.Refusals.{Refusal, placed, numberOf, placeOf}
+use Rattle.rules.specs.Refusals.{Refusal, placed, numberOf, placeOf, ended}
 use Rattle.rules.specs.Characters.{next}
-use Rattle.rules.specs.Strings.{ended, escapeAt}
+use Rattle.rules.specs.Strings.{escapeAt}
 use Rattle.chars.specs.Cursor.{doc, cur, StepIs}
 use Rattle.chars.specs.Seen.{Seen, seen, at-end, seen-eq, seen-ne, seen-lt, seen-ge}
 use Rattle.chars.specs.declared.DocAt.{DocAt}

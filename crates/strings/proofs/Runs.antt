@@ -9,8 +9,8 @@ use lib.ListN.{length}
 use lib.Seq.{slice, length-slice}
 use borrow.Author.Tests.{lt-ltb, le-ltb, leb-true}
 use Rattle.rules.specs.Bytes.{byteAt}
-use Rattle.rules.specs.Refusals.{Refusal, Scan, ok, fail}
-use Rattle.rules.specs.Strings.{ended, expect, threeQuotes, quotesRun, afterQuotes}
+use Rattle.rules.specs.Refusals.{Refusal, ended, Scan, ok, fail}
+use Rattle.rules.specs.Strings.{expect, threeQuotes, quotesRun, afterQuotes}
 use Rattle.rules.specs.Theory.Choices.{by-test}
 use Rattle.rules.specs.Theory.Places.{byte-past, quotes-reached}
 use Rattle.rules.specs.Theory.Walks.{run-on, run-off, quotes-on, quotes-off}

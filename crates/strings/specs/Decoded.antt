@@ -7,9 +7,9 @@ use lib.Dec.{leb, ltb, eqb}
 use lib.ListN.{length}
 use lib.Seq.{slice}
 use Rattle.rules.specs.Bytes.{Text, byteAt}
-use Rattle.rules.specs.Refusals.{Refusal, placed, numberOf, placeOf, Scan, ok, fail}
+use Rattle.rules.specs.Refusals.{Refusal, placed, numberOf, placeOf, ended, Scan, ok, fail}
 use Rattle.rules.specs.Characters.{next}
-use Rattle.rules.specs.Strings.{ended, escapeAt, bodyFrom, threeQuotes, quotesRun, afterQuotes, quotedAt}
+use Rattle.rules.specs.Strings.{escapeAt, bodyFrom, threeQuotes, quotesRun, afterQuotes, quotedAt}
 use Rattle.chars.specs.Cursor.{doc, cur}
 use Rattle.chars.specs.declared.Cursor.{Cursor}
 use Rattle.strings.specs.Units.{Laid}

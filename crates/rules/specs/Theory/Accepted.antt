@@ -1,99 +1,36 @@
 -- Accepted sheets of a document that was read: their entries' numbers fit two bytes, so `accepted` is exactly "a sheet by the rules"; and
 -- any two of them mean the same.
-use mathlib.Core.Path.{_≡_, refl, sym, _∙_, ap, subst}
-use Prim.Native.Nat.{ℕ, zero, suc, _+_, _≤_, _<_}
+use mathlib.Core.Path.{_≡_, refl, sym, _∙_, ap}
+use Prim.Native.Nat.{ℕ, _+_, _≤_, _<_}
 use mathlib.Core.List.{List, [], _∷_, _++_}
-use mathlib.Core.Bool.{Bool, true, false, _&&_}
+use mathlib.Core.Bool.{Bool, true}
 use mathlib.Core.Option.{Option, none, some}
 use mathlib.Core.Logic.{_↔_}
 use native.Mathlib.Omega.{arith}
-use lib.Dec.{leb}
 use lib.ListN.{length, getElem?, length-append}
 use Rattle.answers.specs.Ask.{Trail, lookup, value, refuse, run}
 use Rattle.answers.specs.Resolve.{Laid, Accepts}
 use Rattle.answers.specs.Theory.Sound.{clash}
 use Rattle.answers.specs.Theory.Budget.{one-value}
-use Rattle.rules.specs.Sizes.{maxUnresolved, maxDocument}
-use Rattle.rules.specs.Refusals.{Refusal, placed, nowhere, spent, Read, got, rejected}
-use Rattle.rules.specs.Utf8.{illFormed}
-use Rattle.rules.specs.Environment.{Environment, Entry, entriesOf, textOf}
-use Rattle.rules.specs.Tree.{Root, numbered}
-use Rattle.rules.specs.Reading.{readRoot}
+use Rattle.rules.specs.Refusals.{Refusal, spent}
 use Rattle.rules.specs.Values.{Answer, recordSize, textSize}
 use Rattle.rules.specs.Layers.{Work}
-use Rattle.rules.specs.Unresolved.{Unresolved, unresolvedIn, answerOf}
-use Rattle.rules.specs.Documents.{Document, Setting, Input, given, denied, limited, ofRoot, readDocument, withEnvironment, inputs, ruleOf}
-use Rattle.rules.specs.Documents.{countOf}
+use Rattle.rules.specs.Unresolved.{Unresolved, answerOf}
+use Rattle.rules.specs.Documents.{Setting, given, inputs, ruleOf, countOf}
 use Rattle.rules.specs.Sheet.{texts, trailSize, trailTextSize, trailTexts}
 use Rattle.rules.specs.Checking.{accepted}
 use Rattle.rules.specs.Jobs.{orderOf}
 use Rattle.rules.specs.Meaning.{MeanTheSame}
+use Rattle.rules.specs.Theory.Choices.{getElem-length}
+use Rattle.rules.specs.Theory.Numbering.{prepared}
 use Rattle.rules.specs.Theory.Layout.{Numbered, length-trailRecords, length-records, length-texts, length-trailTexts}
 use Rattle.rules.specs.Theory.Entries.{rootOf, order-rule, SheetOf, accepted-inv, accepted-intro}
 use Rattle.rules.specs.Theory.SameMeaning.{at-end, mean-the-same}
 
 -- ---- a document that was read has at most 256 numbers
 
-found-below : {A : Type 0} (l : List A) (i : ℕ) (a : A) → getElem? l i ≡ some a → i < length l
-found-below [] i a e = clash (cc)
-found-below (b ∷ l) zero a e = omega arith
-found-below (b ∷ l) (suc i) a e = omega (arith, found-below l i a e)
-
-none-past : {A : Type 0} (l : List A) (i : ℕ) → getElem? l i ≡ none → length l ≤ i
-none-past [] i e = omega arith
-none-past (b ∷ l) zero e = clash (cc)
-none-past (b ∷ l) (suc i) e = omega (arith, none-past l i e)
-
--- what holds of a thing that is given
-abbrev Given : {A : Type 0} → (A → Type 0) → Input A → Type 0
-Given P (given a) = P a
-Given P (denied x) = Unit {0}
-
-Few : Document → Type 0
-Few d = length (d .unresolved) ≤ 256
-
-limited-few : (d : Document) → Given Few (limited d)
-unfolding limited Few
-limited-few d = go (getElem? (d .unresolved) maxUnresolved) refl
-  where
-    go : (o : Option Unresolved) → getElem? (d .unresolved) maxUnresolved ≡ o
-        → Given Few (elim o as (λ o. Input Document) [ none ↦ given d | some u ↦ denied (placed 8 (u .place)) ])
-    go none e = none-past (d .unresolved) maxUnresolved e
-    go (some u) e = tt
-
-root-few : (r : Read Root) → Given Few (ofRoot r)
-unfolding ofRoot
-root-few (rejected x) = tt
-root-few (got r at items) = limited-few (record { root = numbered r; unresolved = unresolvedIn (numbered r) })
-
-document-few : (s : List ℕ) → Given Few (readDocument s)
-unfolding readDocument
-document-few s = go (illFormed s)
-  where
-    go : (o : Option ℕ) → Given Few (elim o as (λ o. Input Document) [ some place ↦ denied (placed 2 place) | none ↦ ofRoot (readRoot s) ])
-    go (some place) = tt
-    go none = root-few (readRoot s)
-
-setting-few : (env : Environment) (d : Input Document) → Given Few d → Given (λ x. countOf x ≤ 256) (withEnvironment env d)
-unfolding Few
-setting-few env (given d) few = few
-setting-few env (denied x) few = tt
-
-all-few : (others : Bool) (document environment : List ℕ) → Given (λ x. countOf x ≤ 256) (inputs others document environment)
-unfolding inputs
-all-few others document environment = go (others && leb (length document) maxDocument) (entriesOf environment)
-  where
-    go : (t : Bool) (o : Option (List Entry))
-        → Given (λ x. countOf x ≤ 256) (elim t as (λ t. Input Setting) [
-          | false ↦ denied (nowhere 1)
-          | true ↦ elim o as (λ o. Input Setting) [ none ↦ denied (nowhere 1) | some es ↦ withEnvironment (textOf es) (readDocument document) ]
-        ])
-    go false o = tt
-    go true none = tt
-    go true (some es) = setting-few (textOf es) (readDocument document) (document-few document)
-
 pub inputs-few : (others : Bool) (document environment : List ℕ) (x : Setting) → inputs others document environment ≡ given x → countOf x ≤ 256
-inputs-few others document environment x e = subst (Given (λ x. countOf x ≤ 256)) e (all-few others document environment)
+inputs-few others document environment x e = prepared others document environment x e .at-most
 
 -- ---- entries' numbers
 
@@ -109,7 +46,7 @@ rule-below x known b a e = go (getElem? (x .document .unresolved) b) refl e
         ]) ≡ value a
         → b < countOf x
     go none h k = clash (cc)
-    go (some u) h k = found-below (x .document .unresolved) b u h
+    go (some u) h k = getElem-length (x .document .unresolved) b u h
 
 module _ (x : Setting) (few : countOf x ≤ 65536) (a c : ℕ) where
   pub laid-numbered : (S : Trail Answer) → Laid (orderOf x a c) S → Numbered S

@@ -7,7 +7,7 @@ use native.Mathlib.Omega.{arith}
 use lib.ListN.{length, length-append}
 use borrow.Author.Tests.{le-leb, leb-true}
 use Rattle.answers.specs.Ask.{Trail, Once}
-use Rattle.answers.specs.Resolve.{Accepts}
+use Rattle.answers.specs.Resolve.{answer, resolve, Accepts}
 use Rattle.answers.specs.Theory.Sound.{accepted, count, affordable, fitting}
 use Rattle.answers.specs.Theory.Complete.{complete}
 use Rattle.answers.specs.Theory.Budget.{exact, laid-once}
@@ -15,14 +15,14 @@ use Rattle.rules.specs.Values.{Value, Answer, withinSize, recordSize, te
 use Rattle.rules.specs.Documents.{Setting, Input, given, inputs, countOf}
 use Rattle.rules.specs.Sheet.{records, texts, trailSize, trailTextSize, trailRecords, trailTexts, trailFits, tableFits}
 use Rattle.rules.specs.Meaning.{MeanTheSame}
-use Rattle.rules.specs.Jobs.{roomOf, orderOf, resolveJob}
+use Rattle.rules.specs.Jobs.{roomOf, orderOf, resolveJob, sheetFor}
 use Rattle.rules.specs.Theory.Layout.{both-true, length-records, length-texts, length-trailRecords, length-trailTexts}
 use Rattle.rules.specs.Theory.Numbering.{prepared}
 use Rattle.rules.specs.Theory.Resolving.{closed, root-below}
 use Rattle.rules.specs.Theory.Entries.{rootOf, SheetOf, accepted-inv, accepted-intro}
 use Rattle.rules.specs.Theory.Fits.{within-trailTextSize, order-shrinks}
 use Rattle.rules.specs.Theory.Accepted.{inputs-few, laid-numbered, sheet-accepts, sheet-sizes, sheets-mean-the-same}
-use Rattle.rules.specs.Theory.Jobs.{sheetFor, Handed, Success, success-inv, success-is, resolutionOf, Approval}
+use Rattle.rules.specs.Theory.Jobs.{Handed, Success, success-inv, success-is, resolutionOf, Approval}
 
 -- the rooms that a trail and a table fit
 pub trailFits-inv : (a c : ℕ) (S : Trail Answer) → trailFits a c S ≡ true → (trailSize S ≤ a) × (trailTextSize S ≤ c)
@@ -48,6 +48,12 @@ order-fits x a c S = refl
 empty-fits : (x : Setting) (a c : ℕ) → orderOf x a c .fits [] ≡ true
 unfolding trailSize trailTextSize
 empty-fits x a c = order-fits x a c [] ∙ trailFits-intro a c [] (omega arith) (omega arith)
+
+-- a resolution's trail fits its rooms
+pub answered-fits : (x : Setting) (a c budget : ℕ) {v : Value} {S : Trail Answer} {n : ℕ}
+    → resolve (orderOf x a c) budget (rootOf x) (countOf x) ≡ answer v S n → trailFits a c S ≡ true
+answered-fits x a c budget {v} {S} h =
+    sym (order-fits x a c S) ∙ fitting (orderOf x a c) budget (rootOf x) (countOf x) h (empty-fits x a c)
 
 -- ---- what a success hands back
 
@@ -75,10 +81,7 @@ module _ (d e : List ℕ) (budget l m n : ℕ) (s : Success d e budget l m n) wh
   success-count = let x = s .setting in count (orderOf x (roomOf l) (roomOf n)) budget (rootOf x) (countOf x) (s .handed .answered)
 
   success-fits : trailFits (roomOf l) (roomOf n) (s .handed .entries) ≡ true
-  success-fits =
-      let x = s .setting in
-      sym (order-fits x (roomOf l) (roomOf n) (s .handed .entries))
-      ∙ fitting (orderOf x (roomOf l) (roomOf n)) budget (rootOf x) (countOf x) (s .handed .answered) (empty-fits x (roomOf l) (roomOf n))
+  success-fits = answered-fits (s .setting) (roomOf l) (roomOf n) budget (s .handed .answered)
 
   pub success-approval : let r = sheetFor (s .handed .root) (s .handed .entries) (s .handed .begun) in Approval d e (r .trail) (r .table) (r .text)
   success-approval =

@@ -14,9 +14,9 @@ use Rattle.rules.specs.Counting.{countEntries, entriesIn}
 use Rattle.rules.specs.Reordering.{LaidOut}
 use Rattle.rules.specs.Theory.SameMeaning.{scalarMeaning, meaning, valueMeanings, memberMeanings}
 use Rattle.rules.specs.Theory.ReadBack.{entryMeaning, trailMeaning, sheet-read}
-use Rattle.rules.specs.Jobs.{roomOf, resolveJob}
+use Rattle.rules.specs.Jobs.{roomOf, resolveJob, sheetFor}
 use Rattle.rules.specs.Theory.Accepted.{inputs-few, laid-numbered}
-use Rattle.rules.specs.Theory.Jobs.{sheetFor, Success, success-inv, success-is}
+use Rattle.rules.specs.Theory.Jobs.{Success, success-inv, success-is}
 use Rattle.rules.specs.Theory.BothJobs.{success-accepts, success-count, success-approval}
 use Rattle.rules.specs.Theory.Reordered.{laid-out-is, numbered-of, of-numbered}
 

@@ -18,8 +18,8 @@ use Rattle.rules.specs.Values.{Value, Answer, withinSize}
 use Rattle.rules.specs.Unresolved.{rootValue}
 use Rattle.rules.specs.Documents.{Setting, ruleOf}
 use Rattle.rules.specs.Layers.{Work}
-use Rattle.rules.specs.Sheet.{records, texts, entryRecord, trailSize, trailTextSize, trailRecords, trailTexts}
-use Rattle.rules.specs.Checking.{numberIn, answerIn, answerFor, entriesFrom, tableAccepted, accepted}
+use Rattle.rules.specs.Sheet.{pairAt, records, texts, entryRecord, trailSize, trailTextSize, trailRecords, trailTexts}
+use Rattle.rules.specs.Checking.{answerIn, answerFor, entriesFrom, tableAccepted, accepted}
 use Rattle.rules.specs.Jobs.{orderOf}
 use Rattle.rules.specs.Theory.Layout.{both-true, isSheet-inv, isSheet-intro, Numbered, length-trailRecords, number-at, length-entry, entry-some}
 use Rattle.rules.specs.Theory.Layout.{length-trail}
@@ -58,14 +58,14 @@ module _ (x : Setting) (trail : List ℕ) where
   entries-end (suc n) S full = rw (entriesFrom, le-ltb (trailSize S) (length trail) full)
 
   -- before it one more entry is
-  pub entries-next : (n : ℕ) (S : Trail Answer) (b : ℕ) (a : Answer) → trailSize S < length trail → numberIn trail (trailSize S) ≡ b
+  pub entries-next : (n : ℕ) (S : Trail Answer) (b : ℕ) (a : Answer) → trailSize S < length trail → pairAt trail (trailSize S + 1) ≡ b
       → answerFor x S b ≡ some a → entriesFrom (suc n) x trail S ≡ entriesFrom n x trail ((b, a) ∷ S)
   unfolding entriesFrom
   entries-next n S b a more number-is answer-is =
-      let called : answerFor x S (numberIn trail (trailSize S)) ≡ some a = ap (answerFor x S) number-is ∙ answer-is in
+      let called : answerFor x S (pairAt trail (trailSize S + 1)) ≡ some a = ap (answerFor x S) number-is ∙ answer-is in
       rw (entriesFrom, lt-ltb (trailSize S) (length trail) more, called) (ap (λ k. entriesFrom n x trail ((k, a) ∷ S)) number-is)
 
-  entries-none : (n : ℕ) (S : Trail Answer) → trailSize S < length trail → answerFor x S (numberIn trail (trailSize S)) ≡ none
+  entries-none : (n : ℕ) (S : Trail Answer) → trailSize S < length trail → answerFor x S (pairAt trail (trailSize S + 1)) ≡ none
       → entriesFrom (suc n) x trail S ≡ none
   unfolding entriesFrom
   entries-none n S more none-is = rw (entriesFrom, lt-ltb (trailSize S) (length trail) more, none-is)
@@ -73,13 +73,13 @@ module _ (x : Setting) (trail : List ℕ) where
   -- what comes next
   data Next (S : Trail Answer) : Type 0 where
     ends : length trail ≤ trailSize S → Next S
-    refuses : trailSize S < length trail → answerFor x S (numberIn trail (trailSize S)) ≡ none → Next S
-    goes : (a : Answer) → trailSize S < length trail → answerFor x S (numberIn trail (trailSize S)) ≡ some a → Next S
+    refuses : trailSize S < length trail → answerFor x S (pairAt trail (trailSize S + 1)) ≡ none → Next S
+    goes : (a : Answer) → trailSize S < length trail → answerFor x S (pairAt trail (trailSize S + 1)) ≡ some a → Next S
 
   next : (S : Trail Answer) → Next S
-  next S = go (ltb (trailSize S) (length trail)) refl (answerFor x S (numberIn trail (trailSize S))) refl
+  next S = go (ltb (trailSize S) (length trail)) refl (answerFor x S (pairAt trail (trailSize S + 1))) refl
     where
-      go : (t : Bool) → ltb (trailSize S) (length trail) ≡ t → (o : Option Answer) → answerFor x S (numberIn trail (trailSize S)) ≡ o → Next S
+      go : (t : Bool) → ltb (trailSize S) (length trail) ≡ t → (o : Option Answer) → answerFor x S (pairAt trail (trailSize S + 1)) ≡ o → Next S
       go false h o k = ends (ltb-false (trailSize S) (length trail) h)
       go true h none k = refuses (ltb-true (trailSize S) (length trail) h) k
       go true h (some a) k = goes a (ltb-true (trailSize S) (length trail) h) k
@@ -90,10 +90,10 @@ module _ (x : Setting) (trail : List ℕ) where
   unfolding trailSize
   entries-fuel zero m S h k = entries-end zero S (omega arith) ∙ sym (entries-end m S (omega arith))
   entries-fuel (suc n) zero S h k = entries-end (suc n) S (omega arith) ∙ sym (entries-end zero S (omega arith))
-  entries-fuel (suc n) (suc m) S h k = go (next S) (λ a. entries-fuel n m ((numberIn trail (trailSize S), a) ∷ S))
+  entries-fuel (suc n) (suc m) S h k = go (next S) (λ a. entries-fuel n m ((pairAt trail (trailSize S + 1), a) ∷ S))
     where
       b : ℕ
-      b = numberIn trail (trailSize S)
+      b = pairAt trail (trailSize S + 1)
 
       go : Next S
           → ((a : Answer) → length trail ≤ n + trailSize ((b, a) ∷ S) → length trail ≤ m + trailSize ((b, a) ∷ S)
@@ -109,10 +109,10 @@ module _ (x : Setting) (trail : List ℕ) where
     pub entries-laid : (n : ℕ) (S S′ : Trail Answer) → entriesFrom n x trail S ≡ some S′ → Laid ρ S → Laid ρ S′
     unfolding entriesFrom
     entries-laid zero S S′ e l = let q : S ≡ S′ = cc in rw q at l
-    entries-laid (suc n) S S′ e l = go (next S) (λ a. entries-laid n ((numberIn trail (trailSize S), a) ∷ S) S′)
+    entries-laid (suc n) S S′ e l = go (next S) (λ a. entries-laid n ((pairAt trail (trailSize S + 1), a) ∷ S) S′)
       where
         b : ℕ
-        b = numberIn trail (trailSize S)
+        b = pairAt trail (trailSize S + 1)
 
         go : Next S → ((a : Answer) → entriesFrom n x trail ((b, a) ∷ S) ≡ some S′ → Laid ρ ((b, a) ∷ S) → Laid ρ S′) → Laid ρ S′
         go (ends full) ih = let q : S ≡ S′ = cc (entries-end (suc n) S full) in rw q at l
@@ -139,7 +139,7 @@ module _ (x : Setting) (trail : List ℕ) where
           length-entry (trailTextSize S) b a,
           entry-some a,
         ) in
-        let number-is : numberIn trail (trailSize S) ≡ b =
+        let number-is : pairAt trail (trailSize S + 1) ≡ b =
         rw q′ (number-at (trailRecords S) r (trailTextSize S) b a (trailSize S) (small .0) (length-trailRecords S)) in
         let count : n + length (e ∷ S) ≡ suc n + length S = omega arith in
         ap (λ k. entriesFrom k x trail []) count

@@ -1,7 +1,7 @@
 -- What the jobs come to: a success of resolve and a yes of check, taken apart and put together.
 use mathlib.Core.Path.{_≡_, refl, ap}
 use Prim.Native.Nat.{ℕ, _≤_}
-use mathlib.Core.List.{List, _++_}
+use mathlib.Core.List.{List}
 use mathlib.Core.Bool.{Bool, true, false, _&&_}
 use native.Mathlib.Omega.{arith}
 use lib.Dec.{leb}
@@ -15,9 +15,9 @@ use Rattle.rules.specs.Sizes.{maxBudget, maxRoom}
 use Rattle.rules.specs.Refusals.{Refusal, numberOf}
 use Rattle.rules.specs.Values.{Value, Answer, withinSize}
 use Rattle.rules.specs.Documents.{Setting, Input, given, denied, inputs, countOf}
-use Rattle.rules.specs.Sheet.{records, texts, trailTextSize, trailRecords, trailTexts, tableFits}
+use Rattle.rules.specs.Sheet.{tableFits}
 use Rattle.rules.specs.Checking.{accepted}
-use Rattle.rules.specs.Jobs.{Resolved, roomOf, orderOf, handedBack, resolved, resolveJob, verdict, checkJob}
+use Rattle.rules.specs.Jobs.{roomOf, orderOf, sheetFor, handedBack, resolved, resolveJob, verdict, checkJob}
 use Rattle.rules.specs.Theory.Layout.{both-true}
 use Rattle.rules.specs.Theory.Numbering.{prepared}
 use Rattle.rules.specs.Theory.Entries.{rootOf}
@@ -25,17 +25,6 @@ use Rattle.rules.specs.Theory.Resolving.{resolve-holds}
 use Rattle.rules.specs.Theory.ReadingEnds.{inputs-end}
 
 -- ---- what is handed back
-
--- what is handed back on success
-abbrev pub sheetFor : Value → Trail Answer → ℕ → Resolved
-sheetFor v S n = record {
-  number = 0;
-  place = 0;
-  count = n;
-  trail = trailRecords S;
-  table = records (trailTextSize S) v;
-  text = trailTexts S ++ texts v;
-}
 
 module _ (b c : ℕ) where
   pub handed-sheet : (v : Value) (S : Trail Answer) (n : ℕ) → withinSize v ≡ true → tableFits b c S v ≡ true

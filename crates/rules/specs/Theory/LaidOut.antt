@@ -12,8 +12,8 @@ use Rattle.rules.specs.Tree.{Scalar, null, boolean, number, string}
 use Rattle.rules.specs.Values.{Value, scalar, arrayOf, objectOf, Values, no-values, val, Members, no-members, member}
 use Rattle.rules.specs.Values.{countValues, countMembers, scalarRecords, recordSize, valueRecordSizes, memberRecordSizes}
 use Rattle.rules.specs.Values.{textSize, valueTextSizes, memberTextSizes, nestingOf, deepestValue, deepestMember}
-use Rattle.rules.specs.Sheet.{two, textRecord, scalarRecord, records, valueRecords, memberRecords, texts, valueTexts, memberTexts}
-use Rattle.rules.specs.LookUp.{pairAt, afterText, afterMembers, afterValue, textAt}
+use Rattle.rules.specs.Sheet.{two, pairAt, textRecord, scalarRecord, records, valueRecords, memberRecords, texts, valueTexts, memberTexts}
+use Rattle.rules.specs.LookUp.{afterText, afterMembers, afterValue, textAt}
 use Rattle.rules.specs.Theory.Layout.{pair-at, length-records, length-texts}
 use Rattle.rules.specs.Theory.SameMeaning.{At, at-left, at-right, slice-at, count-values, count-members}
 use Rattle.rules.specs.Theory.TableSteps.{containerKind, text-ends, members-zero, members-next, value-plain, value-worded, value-holds}

@@ -1,7 +1,7 @@
 -- The sheet's layout: how long its parts are, and numbers in two bytes read back.
-use mathlib.Core.Path.{_≡_, refl}
+use mathlib.Core.Path.{_≡_, refl, sym, ap, _∙_}
 use Prim.Native.Nat.{ℕ, _+_, _*_, _/_, _%_, _≤_, _<_}
-use mathlib.Core.List.{List, [], _∷_, _++_}
+use mathlib.Core.List.{List, [], _∷_, _++_, append-assoc}
 use mathlib.Core.Bool.{Bool, true, false, _&&_}
 use mathlib.Core.Option.{none, some}
 use mathlib.Core.Logic.{_↔_}
@@ -16,10 +16,9 @@ use Rattle.rules.specs.Bytes.{Text, same}
 use Rattle.rules.specs.Tree.{Scalar, null, boolean, number, string}
 use Rattle.rules.specs.Values.{Value, scalar, arrayOf, objectOf, Values, no-values, val, Members, no-members, member, Answer}
 use Rattle.rules.specs.Values.{scalarRecords, recordSize, valueRecordSizes, memberRecordSizes, textSize, valueTextSizes, memberTextSizes}
-use Rattle.rules.specs.Sheet.{two, scalarRecord, records, valueRecords, memberRecords, texts, valueTexts, memberTexts}
+use Rattle.rules.specs.Sheet.{two, pairAt, scalarRecord, records, valueRecords, memberRecords, texts, valueTexts, memberTexts}
 use Rattle.rules.specs.Sheet.{entryRecord, answerTexts, entrySize, answerTextSize, trailSize, trailTextSize, trailRecords, trailTexts}
-use Rattle.rules.specs.LookUp.{pairAt}
-use Rattle.rules.specs.Checking.{numberIn, isSheet}
+use Rattle.rules.specs.Checking.{isSheet}
 
 -- ---- tests
 
@@ -132,13 +131,13 @@ length-trailTexts (e ∷ S) =
     omega (arith, length-append (trailTexts S) (answerTexts (e .1)), length-trailTexts S, length-answerTexts (e .1))
 
 -- the number of an entry that stands in the trail is read back
-number-after : (p r : List ℕ) (kind b at : ℕ) → b < 65536 → length p ≡ at → numberIn (p ++ (kind ∷ two b ++ r)) at ≡ b
-unfolding numberIn two
+number-after : (p r : List ℕ) (kind b at : ℕ) → b < 65536 → length p ≡ at → pairAt (p ++ (kind ∷ two b ++ r)) (at + 1) ≡ b
 number-after p r kind b at small e =
-    let s = kind ∷ two b ++ r in
-    rw (← e, getD-append-add p s 1 256, getD-append-add p s 2 256) (two-back b small)
+    ap (λ s. pairAt s (at + 1)) (sym (append-assoc p (kind ∷ []) (two b ++ r)))
+    ∙ pair-at (p ++ (kind ∷ [])) r b (at + 1) small (omega (arith, length-append p (kind ∷ [])))
 
-pub number-at : (p r : List ℕ) (o b : ℕ) (a : Answer) (at : ℕ) → b < 65536 → length p ≡ at → numberIn (p ++ (entryRecord o b a ++ r)) at ≡ b
+pub number-at : (p r : List ℕ) (o b : ℕ) (a : Answer) (at : ℕ) → b < 65536 → length p ≡ at
+    → pairAt (p ++ (entryRecord o b a ++ r)) (at + 1) ≡ b
 unfolding entryRecord
 number-at p r o b none at small e = number-after p r 10 b at small e
 number-at p r o b (some v) at small e = number-after p (records o v ++ r) 9 b at small e

@@ -15,7 +15,8 @@ use Rattle.rules.specs.Bytes.{Text, byteAt, same}
 use Rattle.rules.specs.Refusals.{Refusal, placed, nowhere, numberOf, Scan, ok, fail}
 use Rattle.rules.specs.Utf8.{illFormed}
 use Rattle.rules.specs.Paths.{pathText}
-use Rattle.rules.specs.LookUp.{pairAt, afterMembers, afterValue, isWhole, textAt, memberFrom, memberAt, valueNamed}
+use Rattle.rules.specs.Sheet.{pairAt}
+use Rattle.rules.specs.LookUp.{afterMembers, afterValue, isWhole, textAt, memberFrom, memberAt, valueNamed}
 use Rattle.rules.specs.Jobs.{Found, notFound, foundAt, lookedUp, lookUpJob}
 use Rattle.rules.specs.Theory.Choices.{by-test, by-option}
 use Rattle.rules.specs.Theory.Scanning.{Among}

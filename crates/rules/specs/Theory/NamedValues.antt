@@ -14,8 +14,8 @@ use Rattle.rules.specs.Tree.{Scalar, null, boolean, number, string}
 use Rattle.rules.specs.Values.{Value, scalar, arrayOf, objectOf, Members, no-members, member}
 use Rattle.rules.specs.Values.{countValues, countMembers, recordSize, textSize, nestingOf}
 use Rattle.rules.specs.Values.{memberRecordSizes, memberTextSizes, deepestMember}
-use Rattle.rules.specs.Sheet.{two, textRecord, scalarRecord, records, valueRecords, memberRecords, texts, memberTexts}
-use Rattle.rules.specs.LookUp.{pairAt, afterValue, memberFrom, memberAt, valueNamed}
+use Rattle.rules.specs.Sheet.{two, pairAt, textRecord, scalarRecord, records, valueRecords, memberRecords, texts, memberTexts}
+use Rattle.rules.specs.LookUp.{afterValue, memberFrom, memberAt, valueNamed}
 use Rattle.rules.specs.Theory.Choices.{by-test}
 use Rattle.rules.specs.Theory.Layout.{length-records}
 use Rattle.rules.specs.Theory.SameMeaning.{At, at-right, slice-at, count-members}

@@ -18,6 +18,7 @@ use Rattle.rules.specs.Reading.{readRoot}
 use Rattle.rules.specs.Layers.{end}
 use Rattle.rules.specs.Unresolved.{Unresolved, Scope, fieldScope, withField, inNode, inElements, inFields, inPieces, unresolvedIn}
 use Rattle.rules.specs.Documents.{Document, Setting, Input, given, denied, ofRoot, readDocument, withEnvironment, inputs}
+use Rattle.rules.specs.Theory.Choices.{getElem-length, getElem-none}
 
 -- ---- Q of every unresolved value in a node, by its number and its pieces; of those inside its pieces too
 
@@ -176,16 +177,6 @@ stands-root (fields fs) =
 stands-root (elements es) = let l = unresolvedIn (numbered (elements es)) in stands-elements l 0 es ([], sym (append-nil l))
 
 -- ---- what is known of a setting that the inputs give
-
-pub getElem-length : {A : Type 0} (l : List A) (i : ℕ) (x : A) → getElem? l i ≡ some x → i < length l
-getElem-length [] i x e = clash (cc)
-getElem-length (y ∷ l) zero x e = omega arith
-getElem-length (y ∷ l) (suc i) x e = omega (arith, getElem-length l i x e)
-
-pub getElem-none : {A : Type 0} (l : List A) (i : ℕ) → getElem? l i ≡ none → length l ≤ i
-getElem-none [] i e = omega arith
-getElem-none (y ∷ l) zero e = clash (cc)
-getElem-none (y ∷ l) (suc i) e = omega (arith, getElem-none l i e)
 
 -- a document that was read: its root is numbered, and its list is of all its unresolved values
 pub record Prepared (d : Document) : Type 0 where

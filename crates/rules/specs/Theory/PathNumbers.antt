@@ -1,7 +1,7 @@
 -- "(6 is not given there)": the numbers that reading a look-up's path text gives.
 use mathlib.Core.Path.{_≡_, refl}
 use Prim.Native.Nat.{ℕ, zero, suc, _+_, _*_}
-use mathlib.Core.Bool.{Bool, true, false, _||_}
+use mathlib.Core.Bool.{false, _||_}
 use mathlib.Core.List.{List, [], _∷_}
 use mathlib.Core.Logic.{inl, inr}
 use native.Mathlib.Omega.{arith}
@@ -102,13 +102,13 @@ module _ (s : List ℕ) where
       (λ f. by-option Refuses (afterNumber s at) (λ g. refl) (λ end g. tt)) (λ f. unquoted-refuses at))
 
   -- outside a key no piece is refused for what it says
-  segments-refuse : (n : ℕ) (first : Bool) (from at : ℕ) → Refuses (segmentsFrom n false first s from at)
+  segments-refuse : (n from at : ℕ) → Refuses (segmentsFrom n false s from at)
   unfolding segmentsFrom
-  segments-refuse zero first from at = refl
-  segments-refuse (suc n) first from at =
+  segments-refuse zero from at = refl
+  segments-refuse (suc n) from at =
       by-test Refuses (startsSimple s at)
       (λ e. then-refuses (simpleAt s at) _ (simple-refuses at) (λ t end.
-      then-refuses (segmentsFrom n false false s end (afterInline s end)) _ (segments-refuse n false end (afterInline s end)) (λ rest after. tt)))
+      then-refuses (segmentsFrom n false s end (afterInline s end)) _ (segments-refuse n end (afterInline s end)) (λ rest after. tt)))
       (λ e. tt)
 
   judged-refuses : {A : Type 0} (seven allowed : ℕ) (es : List Element) (a : A) (end : ℕ) → Refuses (judged (judge seven allowed es) a end)
@@ -121,7 +121,7 @@ module _ (s : List ℕ) where
   path-refuses : Refuses (pathText s)
   unfolding pathText segmentsAt
   path-refuses =
-      then-refuses (segmentsAt false s (afterInline s 0)) _ (segments-refuse (suc (length s)) true (afterInline s 0) (afterInline s 0)) (λ gs end.
+      then-refuses (segmentsAt false s (afterInline s 0)) _ (segments-refuse (suc (length s)) (afterInline s 0) (afterInline s 0)) (λ gs end.
       by-test Refuses (ltb end (length s)) (λ e. refl) (λ e. judged-refuses 0 maxPath (elementsOf gs) _ end))
 
   -- a path text is refused by 3, 4, 5, 7 or 8: never by 6 or 11, and its reading does not run out of fuel

@@ -7,14 +7,13 @@ use mathlib.Core.Option.{Option, none, some}
 use native.Mathlib.Omega.{arith}
 use lib.Dec.{leb, ltb, eqb}
 use lib.ListN.{length, getElem?}
-use Rattle.answers.specs.Theory.Sound.{clash}
 use Rattle.rules.specs.Sizes.{maxPath}
 use Rattle.rules.specs.Bytes.{byteAt}
-use Rattle.rules.specs.Refusals.{Refusal, numberOf, fail}
+use Rattle.rules.specs.Refusals.{Refusal, numberOf, notAllowed, fail}
 use Rattle.rules.specs.Characters.{afterInline}
 use Rattle.rules.specs.Pieces.{startsSimple}
-use Rattle.rules.specs.Paths.{isInclude, segmentsFrom, segmentsAt, Element, elementsOf, anyEmpty, judge, judged, notAllowed, braced, substitutionAt, pathText}
-use Rattle.rules.specs.Theory.Choices.{by-test, by-option}
+use Rattle.rules.specs.Paths.{segmentsFrom, segmentsAt, Element, elementsOf, anyEmpty, judge, judged, braced, substitutionAt, pathText}
+use Rattle.rules.specs.Theory.Choices.{by-test, by-option, getElem-none}
 use Rattle.rules.specs.Theory.Places.{inline-reached}
 use Rattle.rules.specs.Theory.Scanning.{among-some, readingNumbers, Numbered, Scans, fails, of-fail, From, to, then-scans, scans-from, simple-inside, simple-scans}
 
@@ -29,11 +28,6 @@ pub judged-scans : {Q A : Type 0} {o : Option Refusal} (a : A) {at end : ℕ} �
 judged-scans a (passes h) k = to k
 judged-scans a (refuses h) k = fails h
 
-none-past : {A : Type 0} (l : List A) (i : ℕ) → getElem? l i ≡ none → length l ≤ i
-none-past [] i e = omega arith
-none-past (a ∷ l) zero e = clash (cc)
-none-past (a ∷ l) (suc i) e = omega (arith, none-past l i e)
-
 abbrev pub Fitting : ℕ → List Element → Type 0
 Fitting allowed es = (0 < length es) × (length es ≤ allowed)
 
@@ -43,7 +37,7 @@ judge-verdict seven allowed [] = refuses refl
 judge-verdict seven allowed (e ∷ es) =
     by-test (Verdict (Fitting allowed (e ∷ es))) (anyEmpty (e ∷ es)) (λ f. refuses refl) (λ f.
     by-option (Verdict (Fitting allowed (e ∷ es))) (getElem? (e ∷ es) allowed)
-    (λ g. passes (omega arith, none-past (e ∷ es) allowed g)) (λ x g. refuses refl))
+    (λ g. passes (omega arith, getElem-none (e ∷ es) allowed g)) (λ x g. refuses refl))
 
 -- ---- paths
 
@@ -54,22 +48,21 @@ module _ (s : List ℕ) where
 
   module _ (key : Bool) where
     -- the fuel is enough: a piece begins inside the text
-    segments-scan : (n : ℕ) (first : Bool) (from at : ℕ) → length s - at < n → Scans (From at) (segmentsFrom n key first s from at)
+    segments-scan : (n from at : ℕ) → length s - at < n → Scans (From at) (segmentsFrom n key s from at)
     unfolding segmentsFrom
-    segments-scan zero first from at h = absurd (omega arith)
-    segments-scan (suc n) first from at h =
+    segments-scan zero from at h = absurd (omega arith)
+    segments-scan (suc n) from at h =
         by-test (Scans (From at)) (key && eqb (byteAt s at) 36) (λ e. fails refl) (λ e.
         by-test (Scans (From at)) (startsSimple s at)
         (λ f. let i = simple-inside s at f in
         then-scans (simple-scans s at f) (λ t end k.
-        by-test (Scans (From at)) (key && first && isInclude s at end t) (λ g. fails refl) (λ g.
         let l = inline-reached s end .0 in
-        then-scans (segments-scan n false end (afterInline s end) (omega arith)) (λ rest after m. to (omega arith)))))
+        then-scans (segments-scan n end (afterInline s end) (omega arith)) (λ rest after m. to (omega arith))))
         (λ f. to (omega arith)))
 
     pub segments-scans : (at : ℕ) → Scans (From at) (segmentsAt key s at)
     unfolding segmentsAt
-    segments-scans at = segments-scan (suc (length s)) true at at (omega arith)
+    segments-scans at = segments-scan (suc (length s)) at at (omega arith)
 
   braced-scans : (dollar : ℕ) (optional : Bool) (at : ℕ) → Scans (From at) (braced s dollar optional at)
   unfolding braced

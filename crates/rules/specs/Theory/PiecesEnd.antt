@@ -1,8 +1,9 @@
 -- The parts of reading that count items: pieces and members. They go forward and never run out of fuel, if each piece or member goes forward.
-use mathlib.Core.Path.{_≡_, refl}
+use mathlib.Core.Path.{_≡_, refl, subst}
 use Prim.Native.Nat.{ℕ, zero, suc, _+_, _-_, _≤_, _<_}
-use mathlib.Core.Bool.{Bool, true, false, not, _||_}
-use mathlib.Core.List.{List, [], _∷_}
+use mathlib.Core.Bool.{true, false, not, _||_}
+use mathlib.Core.List.{List}
+use mathlib.Core.Option.{Option, none, some}
 use native.Mathlib.Omega.{arith}
 use lib.Dec.{ltb, eqb}
 use lib.ListN.{length}
@@ -15,7 +16,7 @@ use Rattle.rules.specs.Refusals.{Refusal, Scan, Read, got, rejected, rea
 use Rattle.rules.specs.Characters.{afterInline, gapAt, afterGap}
 use Rattle.rules.specs.Pieces.{startsSimple}
 use Rattle.rules.specs.Tree.{Pieces, no-pieces, literal, substituted}
-use Rattle.rules.specs.Reading.{Start, brace, bracket, dollar, scalar, nothing, startOf, Part, node, substitution, withPart, counted, piecesFrom, hasSubstitution, unlike, kindOf, judgeValue, theEnd, afterClosing, parted, membersFrom, membersAt, opened}
+use Rattle.rules.specs.Reading.{Start, scalar, startOf, Part, node, substitution, withPart, counted, piecesFrom, hasSubstitution, unlike, kindOf, judgeValue, theEnd, afterClosing, parted, membersFrom, membersAt, opened}
 use Rattle.rules.specs.Theory.Choices.{by-test, by-option}
 use Rattle.rules.specs.Theory.Places.{byte-past, inside, byte-inside, inline-reached, gap-reached}
 use Rattle.rules.specs.Theory.Scanning.{Numbered, Scans, oks, fails, From, to, simple-inside}
@@ -55,13 +56,6 @@ module _ {A : Type 0} {Q : A → ℕ → Type 0} (n at : ℕ) (k : ℕ → Read 
 
 -- ---- pieces
 
-unfoldable pub begins : Start → Bool
-begins brace = true
-begins bracket = true
-begins dollar = true
-begins scalar = true
-begins nothing = false
-
 abbrev pub Some : Pieces → Type 0
 Some no-pieces = ⊥
 Some (literal place gap n ps) = Unit {0}
@@ -71,39 +65,30 @@ with-some : (place : ℕ) (gap : List ℕ) (p : Part) (ps : Pieces) → Some (wi
 with-some place gap (node n) ps = tt
 with-some place gap (substitution x) ps = tt
 
--- what a start chooses
-pub by-start : {X : Type 0} (P : X → Type 0) (start : Start) (f : Start → X) {x : X}
-    → (begins start ≡ true → P (f start)) → (begins start ≡ false → P x)
-    → P (elim start as (λ z. X) [ brace ↦ f brace | bracket ↦ f bracket | dollar ↦ f dollar | scalar ↦ f scalar | nothing ↦ x ])
-unfolding begins
-by-start P brace f g h = g refl
-by-start P bracket f g h = g refl
-by-start P dollar f g h = g refl
-by-start P scalar f g h = g refl
-by-start P nothing f g h = h refl
-
 module _ (s : List ℕ) where
   -- what a start says of the text
-  abbrev pub Begun : ℕ → Start → Type 0
-  Begun at start = (begins start ≡ true → at < length s) × (start ≡ scalar → startsSimple s at ≡ true)
+  abbrev pub Begun : ℕ → Option Start → Type 0
+  Begun at none = Unit {0}
+  Begun at (some start) = (at < length s) × (start ≡ scalar → startsSimple s at ≡ true)
 
-  pub begun : (at : ℕ) → Begun at (startOf s at)
-  unfolding startOf begins
-  begun at =
-      by-test (Begun at) (eqb (byteAt s at) 123) (λ e. (λ f. byte-inside s at 123 (omega arith) e, λ f. clash (cc))) (λ e.
-      by-test (Begun at) (eqb (byteAt s at) 91) (λ f. (λ g. byte-inside s at 91 (omega arith) f, λ g. clash (cc))) (λ f.
+  starts : (at : ℕ) → Begun at (startOf s at)
+  unfolding startOf
+  starts at =
+      by-test (Begun at) (eqb (byteAt s at) 123) (λ e. (byte-inside s at 123 (omega arith) e, λ f. clash (cc))) (λ e.
+      by-test (Begun at) (eqb (byteAt s at) 91) (λ f. (byte-inside s at 91 (omega arith) f, λ g. clash (cc))) (λ f.
       by-test (Begun at) (eqb (byteAt s at) 36)
-      (λ g. by-test (Begun at) (eqb (byteAt s (at + 1)) 123)
-      (λ h. (λ k. byte-inside s at 36 (omega arith) g, λ k. clash (cc))) (λ h. (λ k. clash (cc), λ k. clash (cc))))
-      (λ g. by-test (Begun at) (startsSimple s at)
-      (λ h. (λ k. simple-inside s at h, λ k. h)) (λ h. (λ k. clash (cc), λ k. clash (cc))))))
+      (λ g. by-test (Begun at) (eqb (byteAt s (at + 1)) 123) (λ h. (byte-inside s at 36 (omega arith) g, λ k. clash (cc))) (λ h. tt))
+      (λ g. by-test (Begun at) (startsSimple s at) (λ h. (simple-inside s at h, λ k. h)) (λ h. tt))))
+
+  pub begun : (at : ℕ) (start : Start) → startOf s at ≡ some start → Begun at (some start)
+  begun at start e = subst (Begun at) e (starts at)
 
   -- pieces: at least one where one begins
   abbrev pub Moved : ℕ → Pieces → ℕ → Type 0
-  Moved at ps end = (at ≤ end) × (begins (startOf s at) ≡ true → Some ps × (at < end))
+  Moved at ps end = (at ≤ end) × ((start : Start) → startOf s at ≡ some start → Some ps × (at < end))
 
   module _ (pieceAt : Start → ℕ → ℕ → Read Part)
-      (piece : (start : Start) (at items : ℕ) → startOf s at ≡ start → begins start ≡ true → Reads (From (suc at)) (pieceAt start at items)) where
+      (piece : (start : Start) (at items : ℕ) → startOf s at ≡ some start → Reads (From (suc at)) (pieceAt start at items)) where
     -- a piece and what follows it
     abbrev more : ℕ → ℕ → ℕ → Start → ℕ → Read Pieces
     more n from at start items =
@@ -112,17 +97,16 @@ module _ (s : List ℕ) where
         got (withPart at (slice from at s) part ps) after items₂))
 
     pub pieces-read : (n from at items : ℕ) → length s - at < n → Reads (Moved at) (piecesFrom n pieceAt s from at items)
-    unfolding piecesFrom begins
+    unfolding piecesFrom
     pieces-read zero from at items h = absurd (omega arith)
     pieces-read (suc n) from at items h =
-        by-start (Reads (Moved at)) (startOf s at) (λ start. counted items at (more n from at start))
-        (λ b. counted-reads items at (more n from at (startOf s at)) (λ items₁.
-        then-reads (piece (startOf s at) at items₁ refl b) (λ part end items₂ k.
-        let i = begun at .0 b in
+        by-option (Reads (Moved at)) (startOf s at) (λ b. at-end (omega arith, λ start c. clash (cc))) (λ start b.
+        counted-reads items at (more n from at start) (λ items₁.
+        then-reads (piece start at items₁ b) (λ part end items₂ k.
+        let i = begun at start b .0 in
         let l = inline-reached s end .0 in
         then-reads (pieces-read n end (afterInline s end) items₂ (omega arith)) (λ ps after items₃ m.
-        at-end (omega arith, λ c. (with-some _ _ part ps, omega arith))))))
-        (λ b. at-end (omega arith, λ c. clash (cc)))
+        at-end (omega arith, λ start₁ c. (with-some _ _ part ps, omega arith))))))
 
 pub judge-reads : {at : ℕ} (ps : Pieces) (end items : ℕ) → Some ps → at ≤ end → Reads (From at) (judgeValue ps end items)
 unfolding judgeValue

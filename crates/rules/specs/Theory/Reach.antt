@@ -14,7 +14,7 @@ use Rattle.answers.specs.Theory.Sound.{clash}
 use Rattle.rules.specs.Bytes.{Text, same}
 use Rattle.rules.specs.Tree.{Node, simple, array, object, unresolved, Elements, no-elements, element, Fields, no-fields, field, Pieces, heightOf, highestElement, highestField}
 use Rattle.rules.specs.Values.{Value, scalar, arrayOf, objectOf, Members, no-members, member, Answer, nestingOf, deepestMember}
-use Rattle.rules.specs.Layers.{Work, Layer, written, settled, Layers, end, layer, wait, named, memberNamed, insideValue, insideAnswer, deeper, walkPath, Counted, merged, ofObjects, ofOther, countValue, countAnswer, countLayer, gather, layersOf, keysOf, membersOf, mergedOf, nodeValue, elementValues, layerValue, countedValue, valueOf}
+use Rattle.rules.specs.Layers.{Work, Layer, written, settled, Layers, end, layer, wait, named, memberNamed, insideValue, insideAnswer, deeper, walkPath, Counted, merged, ofObjects, ofOther, takeValue, takeAnswer, takeLayer, gather, layersOf, keysInOrder, membersOf, mergedOf, nodeValue, elementValues, layerValue, countedValue, valueOf}
 use Rattle.rules.specs.Theory.Numbering.{AllNode, AllElements, AllFields}
 use Rattle.rules.specs.Theory.Ends.{When, WithinSize, nested, Ends, dones, refuses, needs, ends-bind}
 
@@ -144,7 +144,7 @@ module _ (strict : Bool) (N : ℕ) where
 
     pub merged-ends : (os : List Layer) → ((k : Text) → AllLow j (deeper k (layersOf os))) → Quiet (mergedOf eval os)
     unfolding mergedOf
-    merged-ends os w = ends-bind (members-end (layersOf os) w (keysOf os)) (λ ms _. dones tt)
+    merged-ends os w = ends-bind (members-end (layersOf os) w (keysInOrder os)) (λ ms _. dones tt)
 
   -- ---- what counts of layers of height h, and its value, where `eval` ends well one lower
 
@@ -180,14 +180,14 @@ module _ (strict : Bool) (N : ℕ) where
 
     module _ (os : List Layer) (u : Each Upper os) (go : List Layer → Work Counted)
         (on : (os′ : List Layer) → Each Upper os′ → Ends strict N Good (go os′)) where
-      value-counts : (v : Value) → When strict (nestingOf v ≤ h) → Ends strict N Good (countValue v os go)
-      unfolding countValue nestingOf layerValue
+      value-counts : (v : Value) → When strict (nestingOf v ≤ h) → Ends strict N Good (takeValue v os go)
+      unfolding takeValue nestingOf layerValue
       value-counts (scalar x) r = dones (other-good (settled (scalar x)) (dones tt) (reverse os) (each-reverse Upper os u))
       value-counts (arrayOf vs) r = dones (other-good (settled (arrayOf vs)) (dones tt) (reverse os) (each-reverse Upper os u))
       value-counts (objectOf ms) r = on (settled (objectOf ms) ∷ os) ((r, λ e. omega (arith, r e)), u)
 
-      layer-counts : (l : Layer) → Low h l → Ends strict N Good (countLayer l os go)
-      unfolding countLayer layerValue heightOf
+      layer-counts : (l : Layer) → Low h l → Ends strict N Good (takeLayer l os go)
+      unfolding takeLayer layerValue heightOf
       layer-counts (settled v) r = value-counts v r
       layer-counts (written (simple x)) r = dones (other-good (written (simple x)) (dones tt) (reverse os) (each-reverse Upper os u))
       layer-counts (written (array es)) r =
@@ -196,7 +196,7 @@ module _ (strict : Bool) (N : ℕ) where
       layer-counts (written (object fs)) r = on (written (object fs) ∷ os) ((r, λ e. omega (arith, r .1 e)), u)
       layer-counts (written (unresolved b ps)) r = needs (r .0 .0) answer-counts
         where
-          answer-counts : (a : Answer) → When strict (WithinSize a) → Ends strict N Good (countAnswer a os go)
+          answer-counts : (a : Answer) → When strict (WithinSize a) → Ends strict N Good (takeAnswer a os go)
           answer-counts none s = on os u
           answer-counts (some v) s = value-counts v (λ e. omega (arith, nested v (s e), r .1 e))
 

@@ -4,27 +4,27 @@ use mathlib.Core.Path.{_≡_, refl}
 use Prim.Native.Nat.{ℕ, zero, suc, _+_, _≤_, _<_}
 use mathlib.Core.Bool.{Bool, true, _&&_, _||_}
 use mathlib.Core.List.{List, [], _∷_}
-use mathlib.Core.Option.{Option}
+use mathlib.Core.Option.{Option, some}
 use native.Mathlib.Omega.{arith}
 use lib.Dec.{leb, ltb, eqb}
 use lib.ListN.{length, getElem?, length-map}
-use Rattle.answers.specs.Theory.Sound.{clash, mem-more}
+use Rattle.answers.specs.Theory.Sound.{mem-more}
 use Rattle.rules.specs.Sizes.{maxNesting, maxDocument, maxUnresolved}
 use Rattle.rules.specs.Bytes.{byteAt}
 use Rattle.rules.specs.Refusals.{Refusal, numberOf, Read, got, rejected, readThen}
 use Rattle.rules.specs.Utf8.{illFormed}
 use Rattle.rules.specs.Environment.{Environment, entriesOf, textOf}
 use Rattle.rules.specs.Characters.{afterGap}
-use Rattle.rules.specs.Paths.{Element, elementsOf, keysOf}
+use Rattle.rules.specs.Paths.{startsInclude, Element, elementsOf, keysOf}
 use Rattle.rules.specs.Tree.{Key, Node, array, object, Root, numbered}
-use Rattle.rules.specs.Reading.{Start, brace, bracket, dollar, scalar, nothing, startOf, node, counted, piecesFrom, judgeValue, theEnd, valuePlace, allowedKeys, fieldWith, fieldJudged, fieldAt, elementAt, arrayAt, objectAt, pieceAt, valueFrom, rootAt, readRoot}
+use Rattle.rules.specs.Reading.{Start, brace, bracket, dollar, scalar, startOf, node, theEnd, valuePlace, allowedKeys, fieldWith, fieldJudged, fieldAt, elementAt, arrayAt, objectAt, pieceAt, valueFrom, rootAt, readRoot}
 use Rattle.rules.specs.Unresolved.{unresolvedIn}
 use Rattle.rules.specs.Documents.{Document, Input, given, denied, limited, ofRoot, readDocument, withEnvironment, inputs}
 use Rattle.rules.specs.Theory.Choices.{by-test, by-option, by-list}
 use Rattle.rules.specs.Theory.Places.{gap-reached}
 use Rattle.rules.specs.Theory.Scanning.{Among, among-some, readingNumbers, Scans, fails, From, to, simple-scans}
 use Rattle.rules.specs.Theory.PathsEnd.{Verdict, passes, refuses, Fitting, judge-verdict, disallowed, segments-scans, substitution-scans}
-use Rattle.rules.specs.Theory.PiecesEnd.{Reads, gots, rejects, of-rejected, at-end, then-reads, reads-map, counting-reads, counted-reads, opened-reads, by-start, begins, begun, pieces-read, judge-reads, members-reads}
+use Rattle.rules.specs.Theory.PiecesEnd.{Reads, gots, rejects, of-rejected, at-end, then-reads, reads-map, counting-reads, counted-reads, opened-reads, begun, pieces-read, judge-reads, members-reads}
 
 module _ (s : List ℕ) where
   place-scans : (at : ℕ) → Scans (From at) (valuePlace s at)
@@ -58,18 +58,18 @@ module _ (s : List ℕ) where
     field-reads : (at items : ℕ) → Reads (From (suc at)) (fieldAt valueAt s nesting at items)
     unfolding fieldAt
     field-reads at items =
+        by-test (Reads (From (suc at))) (startsInclude s at) (λ e. rejects refl) (λ e.
         then-reads (counting-reads items (segments-scans s true at)) (λ gs end items₁ h.
         by-list (Reads (From (suc at))) gs (rejects refl) (λ g rest.
         let es = elementsOf (g ∷ rest) in
-        reads-map (λ a last k. omega arith) (judged-reads end items₁ es (judge-verdict at (allowedKeys nesting items₁) es))))
+        reads-map (λ a last k. omega arith) (judged-reads end items₁ es (judge-verdict at (allowedKeys nesting items₁) es)))))
 
     module _ (nested : nesting ≤ maxNesting) where
       element-reads : (at items : ℕ) → Reads (From (suc at)) (elementAt valueAt s nesting at items)
       unfolding elementAt
       element-reads at items =
-          by-start (Reads (From (suc at))) (startOf s at) (λ start. counted items at (valueAt nesting at))
-          (λ b. counted-reads items at (valueAt nesting at) (λ items₁. values nesting at items₁ (omega arith) nested))
-          (λ b. rejects (disallowed s at))
+          by-option (Reads (From (suc at))) (startOf s at) (λ b. rejects (disallowed s at)) (λ start b.
+          counted-reads items at (valueAt nesting at) (λ items₁. values nesting at items₁ (omega arith) nested))
 
       array-reads : (at items : ℕ) → Reads (From at) (arrayAt valueAt s nesting at items)
       unfolding arrayAt
@@ -82,23 +82,21 @@ module _ (s : List ℕ) where
 
   module _ (valueAt : ℕ → ℕ → ℕ → Read Node) (nesting : ℕ)
       (values : (inner place items : ℕ) → nesting < inner → inner ≤ maxNesting → Reads (From (suc place)) (valueAt inner place items)) where
-    piece-reads : (start : Start) (at items : ℕ) → startOf s at ≡ start → begins start ≡ true
-        → Reads (From (suc at)) (pieceAt valueAt s nesting start at items)
-    unfolding pieceAt begins
-    piece-reads brace at items e b =
+    piece-reads : (start : Start) (at items : ℕ) → startOf s at ≡ some start → Reads (From (suc at)) (pieceAt valueAt s nesting start at items)
+    unfolding pieceAt
+    piece-reads brace at items e =
         opened-reads nesting at
         (λ inner. readThen (objectAt valueAt 125 s inner (at + 1) items) (λ fs end items₁. got (node (object fs)) end items₁)) (λ h.
         then-reads (object-reads valueAt (nesting + 1) (λ m p i k l. values m p i (omega arith) l) 125 (at + 1) items)
         (λ fs end items₁ k. at-end (omega arith)))
-    piece-reads bracket at items e b =
+    piece-reads bracket at items e =
         opened-reads nesting at
         (λ inner. readThen (arrayAt valueAt s inner (at + 1) items) (λ es end items₁. got (node (array es)) end items₁)) (λ h.
         then-reads (array-reads valueAt (nesting + 1) (λ m p i k l. values m p i (omega arith) l) (omega arith) (at + 1) items)
         (λ fs end items₁ k. at-end (omega arith)))
-    piece-reads dollar at items e b = then-reads (counting-reads items (substitution-scans s at)) (λ x end items₁ h. at-end h)
-    piece-reads scalar at items e b =
-        then-reads (counting-reads items (simple-scans s at (begun s at .1 e))) (λ t end items₁ h. at-end h)
-    piece-reads nothing at items e b = clash (cc)
+    piece-reads dollar at items e = then-reads (counting-reads items (substitution-scans s at)) (λ x end items₁ h. at-end h)
+    piece-reads scalar at items e =
+        then-reads (counting-reads items (simple-scans s at (begun s at scalar e .1 refl))) (λ t end items₁ h. at-end h)
 
   -- the depth left and the nesting are more than 32 together, and the nesting is not: so the depth left is never 0
   value-reads : (depth nesting at items : ℕ) → maxNesting < depth + nesting → nesting ≤ maxNesting
@@ -108,22 +106,22 @@ module _ (s : List ℕ) where
   value-reads (suc depth) nesting at items h l =
       let inner = pieceAt (valueFrom depth s) s nesting in
       let piece = piece-reads (valueFrom depth s) nesting (λ m p i k o. value-reads depth m p i (omega arith) o) in
-      by-start (Reads (From (suc at))) (startOf s at) (λ start. readThen (piecesFrom (suc (length s)) inner s at at items) judgeValue)
-      (λ b. then-reads (pieces-read s inner piece (suc (length s)) at at items (omega arith))
-      (λ ps end items₁ m. judge-reads ps end items₁ (m .1 b .0) (m .1 b .1)))
-      (λ b. rejects (disallowed s at))
+      by-option (Reads (From (suc at))) (startOf s at) (λ b. rejects (disallowed s at)) (λ start b.
+      then-reads (pieces-read s inner piece (suc (length s)) at at items (omega arith)) (λ ps end items₁ m.
+      let (some-piece, forward) = m .1 start b in
+      judge-reads ps end items₁ some-piece forward))
 
   root-reads : (at : ℕ) → Reads (From at) (rootAt s at)
   unfolding rootAt
   root-reads at =
-      let inside = valueFrom maxNesting s in
-      let values : (inner place items : ℕ) → 1 ≤ inner → inner ≤ maxNesting → Reads (From (suc place)) (inside inner place items) =
+      let valueAt = valueFrom maxNesting s in
+      let values : (inner place items : ℕ) → 1 ≤ inner → inner ≤ maxNesting → Reads (From (suc place)) (valueAt inner place items) =
       λ m p i k l. value-reads maxNesting m p i (omega arith) l in
       by-test (Reads (From at)) (eqb (byteAt s at) 123)
-      (λ e. then-reads (object-reads inside 1 values 125 (at + 1) 0) (λ fs end items h. at-end (omega arith)))
+      (λ e. then-reads (object-reads valueAt 1 values 125 (at + 1) 0) (λ fs end items h. at-end (omega arith)))
       (λ e. by-test (Reads (From at)) (eqb (byteAt s at) 91)
-      (λ f. then-reads (array-reads inside 1 values (omega arith) (at + 1) 0) (λ es end items h. at-end (omega arith)))
-      (λ f. then-reads (object-reads inside 1 values theEnd at 0) (λ fs end items h. at-end h)))
+      (λ f. then-reads (array-reads valueAt 1 values (omega arith) (at + 1) 0) (λ es end items h. at-end (omega arith)))
+      (λ f. then-reads (object-reads valueAt 1 values theEnd at 0) (λ fs end items h. at-end h)))
 
   pub document-reads : Reads (From 0) (readRoot s)
   unfolding readRoot

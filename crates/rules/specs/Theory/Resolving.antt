@@ -17,7 +17,8 @@ use Rattle.rules.specs.Layers.{Work}
 use Rattle.rules.specs.Unresolved.{Unresolved, answerOf, rootValue}
 use Rattle.rules.specs.Documents.{Setting, ruleOf, countOf}
 use Rattle.rules.specs.Jobs.{orderOf}
-use Rattle.rules.specs.Theory.Numbering.{Prepared, numbers-below, getElem-none, getElem-length}
+use Rattle.rules.specs.Theory.Choices.{getElem-length, getElem-none}
+use Rattle.rules.specs.Theory.Numbering.{Prepared, numbers-below}
 use Rattle.rules.specs.Theory.Ends.{When, WithinSize, Ends, refuses, ends-below, ends-value, ends-refused}
 use Rattle.rules.specs.Theory.Reach.{Each, each-at, Quiet}
 use Rattle.rules.specs.Theory.Rules.{top, Listed, all-listed, answer-ends, root-ends}

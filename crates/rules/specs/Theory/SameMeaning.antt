@@ -13,8 +13,8 @@ use Rattle.rules.specs.Tree.{Scalar, null, boolean, number, string}
 use Rattle.rules.specs.Values.{Value, scalar, arrayOf, objectOf, Values, no-values, val, Members, no-members, member}
 use Rattle.rules.specs.Values.{countValues, countMembers, scalarRecords, recordSize, valueRecordSizes, memberRecordSizes, textSize}
 use Rattle.rules.specs.Values.{valueTextSizes, memberTextSizes}
-use Rattle.rules.specs.Sheet.{two, textRecord, scalarRecord, records, valueRecords, memberRecords, texts, valueTexts, memberTexts}
-use Rattle.rules.specs.LookUp.{pairAt, textAt}
+use Rattle.rules.specs.Sheet.{two, pairAt, textRecord, scalarRecord, records, valueRecords, memberRecords, texts, valueTexts, memberTexts}
+use Rattle.rules.specs.LookUp.{textAt}
 use Rattle.rules.specs.Meaning.{Record, plain, numbered, worded, unread, firstRecord, bytesOf, recordsIn, recordsOf, MeanTheSame}
 use Rattle.rules.specs.Theory.Layout.{pair-at, length-texts}
 

@@ -11,7 +11,8 @@ use borrow.Author.Tests.{leb-true, leb-false, le-leb, lt-leb, eqb-true, eq-eqb, 
 use Rattle.answers.specs.Theory.Sound.{clash}
 use Rattle.rules.specs.Sizes.{maxNesting}
 use Rattle.rules.specs.Bytes.{byteAt, within}
-use Rattle.rules.specs.LookUp.{pairAt, afterText, afterMembers, afterRecord, afterValue, isWhole}
+use Rattle.rules.specs.Sheet.{pairAt}
+use Rattle.rules.specs.LookUp.{afterText, afterMembers, afterRecord, afterValue, isWhole}
 use Rattle.rules.specs.Theory.Layout.{both-true}
 
 -- ---- options and tests
@@ -38,6 +39,10 @@ within-outside low high b h = go (within low high b) refl
 abbrev pub containerKind : Bool → ℕ
 containerKind false = 6
 containerKind true = 7
+
+container-kind : (keyed : Bool) → (6 ≤ containerKind keyed) × (containerKind keyed ≤ 7) × (eqb (containerKind keyed) 7 ≡ keyed)
+container-kind false = (omega arith, omega arith, refl)
+container-kind true = (omega arith, omega arith, refl)
 
 pub data Kind (b : ℕ) : Type 0 where
   plain : 1 ≤ b → b ≤ 3 → Kind b
@@ -169,23 +174,16 @@ module _ (table : List ℕ) (textLength : ℕ) where
 
       pub record-holds : (keyed : Bool) → kind ≡ containerKind keyed → at + 3 ≤ length table → end-of-record ≡ inner keyed
       unfolding afterRecord
-      record-holds true e h =
+      record-holds keyed e h =
+          let (least, most, is-keyed) = container-kind keyed in
+          let keyed-is : eqb kind 7 ≡ keyed = rw e is-keyed in
           rw (
             afterRecord,
             within-outside 1 3 kind (omega arith),
             within-outside 4 5 kind (omega arith),
             within-intro 6 7 kind (omega arith) (omega arith),
             le-leb _ _ h,
-            eq-eqb kind 7 e,
-          )
-      record-holds false e h =
-          rw (
-            afterRecord,
-            within-outside 1 3 kind (omega arith),
-            within-outside 4 5 kind (omega arith),
-            within-intro 6 7 kind (omega arith) (omega arith),
-            le-leb _ _ h,
-            ne-eqb kind 7 (omega arith),
+            keyed-is,
           )
 
       pub record-cut : 6 ≤ kind → kind ≤ 7 → length table < at + 3 → end-of-record ≡ none

@@ -11,7 +11,8 @@ use lib.ListN.{length}
 use borrow.Author.Tests.{leb-true, leb-false}
 use Rattle.answers.specs.Theory.Sound.{clash}
 use Rattle.rules.specs.Bytes.{byteAt}
-use Rattle.rules.specs.LookUp.{pairAt, afterMembers, afterRecord, afterValue}
+use Rattle.rules.specs.Sheet.{pairAt}
+use Rattle.rules.specs.LookUp.{afterMembers, afterRecord, afterValue}
 use Rattle.rules.specs.Theory.Places.{byte-past}
 use Rattle.rules.specs.Theory.TableSteps.{some-one, text-inv, valuePlace, members-zero, members-next, members-inv}
 use Rattle.rules.specs.Theory.TableSteps.{record-plain, record-worded, record-holds, RecordAt, plain-at, text-at, container-at, record-inv}
