@@ -1,0 +1,50 @@
+//! The exported look-up as Rust calls it, and what the tests hold it against.
+
+pub mod plain;
+pub mod random;
+
+use std::ops::Range;
+
+/// A refusal: document 01's number and place.
+#[derive(Clone, Copy, Debug, PartialEq, Eq)]
+pub struct Refusal {
+    pub number: u8,
+    pub place: usize,
+}
+
+/// What a look-up answers: where in the table the named value lies, or a refusal.
+pub type Answer = Result<Range<usize>, Refusal>;
+
+extern "C" {
+    // Nothing holds this to the library's own source: keep it equal to include/dzintrulo.h.
+    fn dz_look_up(
+        table: *const u8,
+        table_len: usize,
+        text: *const u8,
+        text_len: usize,
+        path: *const u8,
+        path_len: usize,
+    ) -> u64;
+}
+
+/// The exported look-up, with its answer taken apart.
+pub fn look_up(table: &[u8], text: &[u8], path: &[u8]) -> Answer {
+    // SAFETY: each pointer comes with the length of its slice, the function only reads, and it has no precondition.
+    let word = unsafe { dz_look_up(table.as_ptr(), table.len(), text.as_ptr(), text.len(), path.as_ptr(), path.len()) };
+    unpack(word)
+}
+
+/// The answer that a word of 64 bits stands for. Panics if a bit is set that its case leaves unused.
+fn unpack(word: u64) -> Answer {
+    let field = |shift| usize::from((word >> shift) as u16);
+    match (word % 64) as u8 {
+        0 => {
+            assert!(word >> 38 == 0, "found, with bits set past the length: {word:#x}");
+            Ok(field(6)..field(6) + field(22))
+        }
+        number => {
+            assert!(word >> 22 == 0, "refused, with bits set past the place: {word:#x}");
+            Err(Refusal { number, place: field(6) })
+        }
+    }
+}
