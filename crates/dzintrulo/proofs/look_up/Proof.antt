@@ -22,7 +22,7 @@ part-result-start : tie.Need-part-result-start
 part-result-start c = search needs
 
 part-result-end : tie.Need-part-result-end
-part-result-end c = search part-inside
+part-result-end c = search (needs, part-inside)
 
 enum-known-number : tie.Need-enum-known-number
 enum-known-number c = search needs
