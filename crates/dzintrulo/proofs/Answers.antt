@@ -1,6 +1,6 @@
 -- One law for each answer of look-up.
 use mathlib.Core.Path.{_≡_, refl, sym, _∙_, ap}
-use mathlib.Core.Bool.{Bool, true, false}
+use mathlib.Core.Bool.{Bool, true, false, cond}
 use mathlib.Core.List.{List, [], _∷_}
 use mathlib.Core.Option.{Option, none, some}
 use Prim.Native.Nat.{ℕ, zero, suc, _+_, _-_, _*_, _≤_, _<_, _%_, _^_}
@@ -8,6 +8,7 @@ use native.Mathlib.Omega.{arith}
 use lib.Dec.{leb, eqb}
 use lib.ListN.{length, take, drop}
 use borrow.Author.Tests.{le-leb, leb-true, ne-eqb, eq-eqb, eqb-true}
+use Rattle.answers.specs.Ask.{mem}
 use Rattle.answers.specs.Theory.Sound.{clash}
 use Rattle.rules.specs.Bytes.{Text}
 use Rattle.rules.specs.Sizes.{maxRoom, maxPathText, maxPath}
@@ -18,7 +19,7 @@ use Rattle.rules.specs.LookUp.{isWhole, valueNamed}
 use Rattle.rules.specs.Jobs as J
 use Rattle.rules.specs.Theory.PathsEnd.{path-ends}
 use Rattle.rules.specs.Theory.LookUpSteps.{look-up-long, look-up-not-whole, look-up-ill-formed}
-use Rattle.rules.specs.Theory.LookUps.{look-up-part, look-up-refused}
+use Rattle.rules.specs.Theory.LookUps.{lookUpNumbers, look-up-part, look-up-refused}
 use Rattle.chars.specs.Cursor.{doc, illAt}
 use Rattle.chars.specs.declared.DocAt.{DocAt}
 use Rattle.chars.specs.declared.RecAt.{RecAt}
@@ -128,6 +129,27 @@ module _ (table text path : List ℕ) where
 
 -- ---- the part, and the packing
 
+positive : (x : ℕ) → (x ≡ 0 → ⊥) → 1 ≤ x
+positive zero h = absurd (h refl)
+positive (suc x) h = omega arith
+
+-- every number of a look-up's refusals has room in six bits
+abbrev Under : List ℕ → Type 0
+Under [] = Unit {0}
+Under (n ∷ ns) = (n < 64) × Under ns
+
+among-under : (n : ℕ) (ns : List ℕ) → Under ns → mem n ns ≡ true → n < 64
+among-under n [] h e = clash (cc)
+among-under n (m ∷ ns) (h, k) e = go (eqb m n) refl e (among-under n ns k)
+  where
+    go : (t : Bool) → eqb m n ≡ t → cond t true (mem n ns) ≡ true → (mem n ns ≡ true → n < 64) → n < 64
+    go true f g next = omega (arith, eqb-true m n f)
+    go false f g next = next g
+
+numbers-under : Under lookUpNumbers
+numbers-under =
+    (omega arith, (omega arith, (omega arith, (omega arith, (omega arith, (omega arith, (omega arith, (omega arith, (omega arith, tt)))))))))
+
 -- which of the two an answer is
 data Kind (f : J.Found) (r : Found) : Type 0 where
   a-part : f .number ≡ 0 → r ≡ Found.Part (rec (f .start)) (rec (f .size)) → Kind f r
@@ -145,6 +167,16 @@ module _ (table text path : List ℕ) {r : Found} (k : r ≡ foundOf (J.lookUpJo
   kind-of : Kind job r
   kind-of = rw k (kind job (eqb (job .number) 0) refl)
 
+  -- 1 is given of a longer table
+  short-table : job .number ≡ 0 → length table ≤ 32768
+  unfolding J.notFound
+  short-table n = go (leb (length table) 32768) refl
+    where
+      go : (t : Bool) → leb (length table) 32768 ≡ t → length table ≤ 32768
+      go true e = leb-true (length table) 32768 e
+      go false e =
+          clash (cc (ap (λ (f : J.Found). f .number) (look-up-long table text path (λ a b c. clash (cc (le-leb (length table) 32768 a))))))
+
   module _ {start size : RecAt} (z : r ≡ Found.Part start size) where
     is-part : Kind job r → (job .number ≡ 0) × (start ≡ rec (job .start)) × (size ≡ rec (job .size))
     is-part (a-part n e) =
@@ -154,15 +186,8 @@ module _ (table text path : List ℕ) {r : Found} (k : r ≡ foundOf (J.lookUpJo
     pub part-inside : start .0 + size .0 ≤ length table
     part-inside = let (n, s, t) = is-part kind-of in rw (s, t) (look-up-part table text path n .1)
 
-    -- 1 is given of a longer table
     pub part-fits : start .0 + size .0 < 2 ^ 64
-    unfolding J.notFound
-    part-fits = let (n, s, t) = is-part kind-of in go n (leb (length table) 32768) refl
-      where
-        go : job .number ≡ 0 → (t : Bool) → leb (length table) 32768 ≡ t → start .0 + size .0 < 2 ^ 64
-        go n true e = let h = part-inside in omega (arith, leb-true (length table) 32768 e)
-        go n false e =
-            clash (cc (ap (λ (f : J.Found). f .number) (look-up-long table text path (λ a b c. clash (cc (le-leb (length table) 32768 a))))))
+    part-fits = let (n, s, t) = is-part kind-of in let h = part-inside in let l = short-table n in omega arith
 
     pub part-handed : take (start .0 + size .0 - start .0) (drop (start .0) table) ≡ partOf table job
     unfolding partOf
@@ -183,15 +208,20 @@ module _ (table text path : List ℕ) {r : Found} (k : r ≡ foundOf (J.lookUpJo
         let (n, s, t) = is-refusal kind-of in
         let (m, a, b) = look-up-refused table text path (positive (job .number) n) in
         rw (a, b)
-      where
-        positive : (x : ℕ) → (x ≡ 0 → ⊥) → 1 ≤ x
-        positive zero h = absurd (h refl)
-        positive (suc x) h = omega arith
 
   packed-kind : Kind job r → packedFound r ≡ packed job
   unfolding packed
-  packed-kind (a-part n e) = rw (e, packed, eq-eqb _ _ n)
-  packed-kind (a-refusal n e) = rw (e, packed, ne-eqb _ _ n)
+  packed-kind (a-part n e) =
+      let l = short-table n in
+      let (h, i) = look-up-part table text path n in
+      let s : job .start % 65536 ≡ job .start = omega arith in
+      let t : job .size % 65536 ≡ job .size = omega arith in
+      rw (e, packed, eq-eqb _ _ n, s, t)
+  packed-kind (a-refusal n e) =
+      let (m, a, b) = look-up-refused table text path (positive (job .number) n) in
+      let l = among-under (job .number) lookUpNumbers numbers-under m in
+      let s : job .number % 64 ≡ job .number = omega arith in
+      rw (e, packed, ne-eqb _ _ n, s)
 
   pub packed-answer : {v : ℕ} → v ≡ packedFound r → v ≡ packed job
   packed-answer e = e ∙ packed-kind kind-of

@@ -19,9 +19,9 @@ partOf table f = take (f .size) (drop (f .start) table)
 
 -- Look-up in 64 bits. Bits 0 to 5: the number. Found: bits 6 to 21 the start, bits 22 to 37 the size. Refused: bits 6 to 21 the place.
 unfoldable pub packed : J.Found → ℕ
-packed f =
-    cond (eqb (f .number) 0) (f .start % 65536 * 64 + f .size % 65536 * 4194304) (f .number % 64 + f .place % 65536 * 64)
+packed f = cond (eqb (f .number) 0) (f .start * 64 + f .size * 4194304) (f .number + f .place % 65536 * 64)
 
+-- what the code packs, of any answer
 abbrev pub packedFound : Found → ℕ
 packedFound (Found.Part start size) = start .0 % 65536 * 64 + size .0 % 65536 * 4194304
 packedFound (Found.Refused number place) = number % 64 + place .0 % 65536 * 64
