@@ -1,15 +1,18 @@
 -- What is proved of the definitions.
 
--- reading: it never runs out of fuel, and gives only its own numbers
+-- reading: it never runs out of fuel, and gives only its own numbers; how long texts are; first bytes rise by the numbers
 pub mod Choices
 pub mod Skips
 pub mod Places
 pub mod Walks
 pub mod Ascii
 pub mod Scanning
+pub mod Lengths
 pub mod PathsEnd
 pub mod PiecesEnd
 pub mod ReadingEnds
+pub mod ValueSteps
+pub mod FirstBytes
 -- resolving: what is needed has a number, and values end
 pub mod Numbering
 pub mod Ends

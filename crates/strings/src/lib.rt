@@ -15,7 +15,7 @@ use triple::raw;
 use triple::three_quotes;
 pub use units::Hex;
 pub use units::Unit;
-use units::copy;
+pub use units::copy;
 pub use units::encode;
 pub use units::hex_digit;
 pub use units::hex_four;

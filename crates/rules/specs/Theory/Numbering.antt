@@ -69,20 +69,20 @@ module _ {P Q : ℕ → Pieces → Type 0} (h : (b : ℕ) (ps : Pieces) → P b 
 mutual
   unfolding numberNode inNode
 
-  count-node : (b : ℕ) (n : Node) (scope : Scope) → numberNode b n .1 ≡ b + length (inNode scope (numberNode b n .0))
+  pub count-node : (b : ℕ) (n : Node) (scope : Scope) → numberNode b n .1 ≡ b + length (inNode scope (numberNode b n .0))
   count-node b (simple x) scope = omega arith
   count-node b (array es) scope = count-elements b es
   count-node b (object fs) scope = count-fields b fs scope no-fields
   count-node b (unresolved _ ps) scope = omega (arith, count-pieces (suc b) ps)
 
-  count-elements : (b : ℕ) (es : Elements) → numberElements b es .1 ≡ b + length (inElements (numberElements b es .0))
+  pub count-elements : (b : ℕ) (es : Elements) → numberElements b es .1 ≡ b + length (inElements (numberElements b es .0))
   count-elements b no-elements = omega arith
   count-elements b (element n es) =
       let (n′, c) = numberNode b n in
       let rest = inElements (numberElements c es .0) in
       omega (arith, count-node b n none, count-elements c es, length-append (inNode none n′) rest)
 
-  count-fields : (b : ℕ) (fs : Fields) (scope : Scope) (earlier : Fields)
+  pub count-fields : (b : ℕ) (fs : Fields) (scope : Scope) (earlier : Fields)
       → numberFields b fs .1 ≡ b + length (inFields (numberFields b fs .0) scope earlier)
   count-fields b no-fields scope earlier = omega arith
   count-fields b (field k n fs) scope earlier =
@@ -91,7 +91,7 @@ mutual
       let inner = fieldScope scope earlier k in
       omega (arith, count-node b n inner, count-fields c fs scope (withField earlier k n′), length-append (inNode inner n′) rest)
 
-  count-pieces : (b : ℕ) (ps : Pieces) → numberPieces b ps .1 ≡ b + length (inPieces (numberPieces b ps .0))
+  pub count-pieces : (b : ℕ) (ps : Pieces) → numberPieces b ps .1 ≡ b + length (inPieces (numberPieces b ps .0))
   count-pieces b no-pieces = omega arith
   count-pieces b (literal place gap n ps) =
       let (n′, c) = numberNode b n in

@@ -119,14 +119,14 @@ judge-reads {at} (literal place gap n ps) end items h k =
 -- ---- members
 
 module _ (s : List ℕ) where
-  byte-there : (at : ℕ) → eqb (byteAt s at) theEnd ≡ false → at < length s
+  pub byte-there : (at : ℕ) → eqb (byteAt s at) theEnd ≡ false → at < length s
   byte-there at e = inside s at {t = not (eqb (byteAt s at) theEnd)} (λ past. rw (byte-past s at past)) (rw e)
 
-  closing-forward : (closing at : ℕ) → at ≤ afterClosing closing at
+  pub closing-forward : (closing at : ℕ) → at ≤ afterClosing closing at
   unfolding afterClosing
   closing-forward closing at = by-test (λ r. at ≤ r) (eqb closing theEnd) (λ e. omega arith) (λ e. omega arith)
 
-  parted-scans : (closing at : ℕ) → Scans (From at) (parted closing s at)
+  pub parted-scans : (closing at : ℕ) → Scans (From at) (parted closing s at)
   unfolding parted
   parted-scans closing at =
       let p = afterGap s at in

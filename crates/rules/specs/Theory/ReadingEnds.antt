@@ -27,7 +27,7 @@ use Rattle.rules.specs.Theory.PathsEnd.{Verdict, passes, refuses, Fittin
 use Rattle.rules.specs.Theory.PiecesEnd.{Reads, gots, rejects, of-rejected, at-end, then-reads, reads-map, counting-reads, counted-reads, opened-reads, begun, pieces-read, judge-reads, members-reads}
 
 module _ (s : List ℕ) where
-  place-scans : (at : ℕ) → Scans (From at) (valuePlace s at)
+  pub place-scans : (at : ℕ) → Scans (From at) (valuePlace s at)
   unfolding valuePlace
   place-scans at =
       let p = afterGap s at in
@@ -55,7 +55,7 @@ module _ (s : List ℕ) where
         let e : length (keysOf es) ≡ length es = length-map es _ in
         with-reads at items (keysOf es) (omega arith) (omega arith)
 
-    field-reads : (at items : ℕ) → Reads (From (suc at)) (fieldAt valueAt s nesting at items)
+    pub field-reads : (at items : ℕ) → Reads (From (suc at)) (fieldAt valueAt s nesting at items)
     unfolding fieldAt
     field-reads at items =
         by-test (Reads (From (suc at))) (startsInclude s at) (λ e. rejects refl) (λ e.
@@ -65,7 +65,7 @@ module _ (s : List ℕ) where
         reads-map (λ a last k. omega arith) (judged-reads end items₁ es (judge-verdict at (allowedKeys nesting items₁) es)))))
 
     module _ (nested : nesting ≤ maxNesting) where
-      element-reads : (at items : ℕ) → Reads (From (suc at)) (elementAt valueAt s nesting at items)
+      pub element-reads : (at items : ℕ) → Reads (From (suc at)) (elementAt valueAt s nesting at items)
       unfolding elementAt
       element-reads at items =
           by-option (Reads (From (suc at))) (startOf s at) (λ b. rejects (disallowed s at)) (λ start b.
@@ -82,7 +82,7 @@ module _ (s : List ℕ) where
 
   module _ (valueAt : ℕ → ℕ → ℕ → Read Node) (nesting : ℕ)
       (values : (inner place items : ℕ) → nesting < inner → inner ≤ maxNesting → Reads (From (suc place)) (valueAt inner place items)) where
-    piece-reads : (start : Start) (at items : ℕ) → startOf s at ≡ some start → Reads (From (suc at)) (pieceAt valueAt s nesting start at items)
+    pub piece-reads : (start : Start) (at items : ℕ) → startOf s at ≡ some start → Reads (From (suc at)) (pieceAt valueAt s nesting start at items)
     unfolding pieceAt
     piece-reads brace at items e =
         opened-reads nesting at
@@ -99,7 +99,7 @@ module _ (s : List ℕ) where
         then-reads (counting-reads items (simple-scans s at (begun s at scalar e .1 refl))) (λ t end items₁ h. at-end h)
 
   -- the depth left and the nesting are more than 32 together, and the nesting is not: so the depth left is never 0
-  value-reads : (depth nesting at items : ℕ) → maxNesting < depth + nesting → nesting ≤ maxNesting
+  pub value-reads : (depth nesting at items : ℕ) → maxNesting < depth + nesting → nesting ≤ maxNesting
       → Reads (From (suc at)) (valueFrom depth s nesting at items)
   unfolding valueFrom
   value-reads zero nesting at items h l = absurd (omega arith)

@@ -1,0 +1,4 @@
+pub mod Bytes
+pub mod Starts
+pub mod Places
+pub mod Spelling

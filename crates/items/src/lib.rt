@@ -1,0 +1,47 @@
+// The document in memory: a table of items in preorder and a text part. How a tree stands in them, and how an item is written.
+use chars::DocAt;
+use chars::TextAt;
+ghost use Rattle.items.specs.Writing.{FourAsked, FourIs, ItemAsked, ItemIs};
+
+/// The numbers of an item.
+pub struct Item {
+    /// what it is
+    pub kind: usize,
+    /// how many items it has with those inside it
+    pub size: usize,
+    /// a field's key, or the whitespace before a piece
+    pub key: TextAt,
+    pub keylen: TextAt,
+    /// its own text
+    pub text: TextAt,
+    pub textlen: TextAt,
+    /// where it stands in the document
+    pub place: DocAt,
+    /// an unresolved value's number; of a substitution how many elements its path has
+    pub number: usize,
+}
+
+// Four numbers that fit, from a place of the table on.
+fn put_four(table: &mut [u16], at: usize, a: usize, b: usize, c: usize, d: usize)
+    requires { ⌜ FourAsked at a b c d (now table) ⌝ }
+    ensures { λ _. ⌜ FourIs at a b c d (now (table .entry)) (now (table .exit)) ⌝ }
+{
+    table[at] = a as u16;
+    table[at + 1] = b as u16;
+    table[at + 2] = c as u16;
+    table[at + 3] = d as u16;
+}
+
+/// Writes an item.
+pub fn put_item(table: &mut [u16], i: usize, x: Item)
+    requires { ⌜ ItemAsked i x (now table) ⌝ }
+    ensures { λ _. ⌜ ItemIs i x (now (table .entry)) (now (table .exit)) ⌝ }
+{
+    let key = x.key;
+    let keylen = x.keylen;
+    put_four(table, 8 * i, x.kind, x.size, key.0, keylen.0);
+    let text = x.text;
+    let textlen = x.textlen;
+    let place = x.place;
+    put_four(table, 8 * i + 4, text.0, textlen.0, place.0, x.number);
+}

@@ -1,0 +1,4 @@
+pub mod Counts
+pub mod Trees
+pub mod Lists
+pub mod Passes

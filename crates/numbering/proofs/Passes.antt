@@ -1,0 +1,281 @@
+-- One law for each answer of the functions that number the items.
+use mathlib.Core.Path.{_≡_, refl, sym, ap, _∙_}
+use Prim.Native.Nat.{ℕ, suc, _+_, _*_, _≤_, _<_}
+use mathlib.Core.List.{List, [], _∷_}
+use mathlib.Core.Bool.{Bool, true, false}
+use mathlib.Core.Option.{none, some}
+use mathlib.Core.Logic.{inl, inr, ⊎-elim}
+use native.Mathlib.Omega.{arith}
+use lib.Dec.{ltb}
+use lib.ListN.{length, getD, set, getElem?, length-set, List·getD-eq-default}
+use lib.Seq.{getD-set-same, getD-set-other}
+use borrow.Author.Tests.{ltb-true, ltb-false}
+use Rattle.chars.specs.declared.DocAt.{DocAt}
+use Rattle.rules.specs.Tree.{Pieces, Root, fields, elements, rootNode, numberNode, numbered}
+use Rattle.rules.specs.Layers.{end}
+use Rattle.rules.specs.Unresolved.{Unresolved, Scope, inNode, unresolvedIn}
+use Rattle.rules.specs.Theory.Numbering.{count-node}
+use Rattle.items.specs.Holds.{NodeAt, PiecesAt}
+use Rattle.items.specs.Joining.{elements-forward, fields-forward}
+use Rattle.numbering.specs.declared.Count.{Count}
+use Rattle.numbering.specs.Numbers.{ReadIs, GiveIs, Step, ItemIs, table, Unnumbered, ItemOf, Indexed, Numbered, NumberIs}
+use Rattle.numbering.proofs.Counts.{eights, eights-one, eights-none, eights-less, eights-same}
+use Rattle.numbering.proofs.Trees.{Any, Same, member-apart, member-fits, counts-node, Given, shown-node, shown-pieces}
+use Rattle.numbering.proofs.Lists.{few-none, many-some, Standing, Standings, standing, Holding, standings-node}
+
+-- ---- a number of the table, and an item's number
+
+pub read-there : {t : List ℕ} {at x : ℕ} → x ≡ getD t at 0 → ReadIs t at x
+read-there e = record { is = e }
+
+pub read-past : (t : List ℕ) (at : ℕ) → length t ≤ at → ReadIs t at 0
+read-past t at l = record { is = sym (List·getD-eq-default t 0 l) }
+
+pub give-both : {t u v : List ℕ} (i number : ℕ) → u ≡ set t (8 * i + 7) number → v ≡ set u (16392 + number) i → GiveIs i number t v
+give-both i number e f = record { is = f ∙ rw e }
+
+-- ---- one item
+
+give-length : {i number : ℕ} {t u : List ℕ} → GiveIs i number t u → length u ≡ length t
+give-length {i} {number} {t} {u} k = ap length (k .is) ∙ simp length-set
+
+module _ {t : List ℕ} {i count kind : ℕ} (h : ReadIs t (8 * i) kind) where
+  pub item-other : (kind ≡ 8 → ⊥) → ItemIs i count t t (Count.Done count)
+  item-other e = record { same = refl; is = inl (λ z. e (h .is ∙ z), refl, refl) }
+
+  pub item-excess : {p : ℕ} → kind ≡ 8 → count ≡ 256 → ReadIs t (8 * (i + 1) + 6) p → ItemIs i count t t (Count.Excess (record { 0 = p }))
+  item-excess e l k = record { same = refl; is = (sym (h .is) ∙ e, l, k .is, refl) }
+
+  pub item-given : {u : List ℕ} → kind ≡ 8 → (count ≡ 256 → ⊥) → count ≤ 256 → GiveIs i count t u → ItemIs i count t u (Count.Done (count + 1))
+  item-given e n l k = record { same = give-length k; is = inr (sym (h .is) ∙ e, omega (arith, n), refl, k) }
+
+-- ---- all items
+
+-- The items before an item are numbered, and nothing else of the items has changed.
+pub record Passing (before : List ℕ) (items i count : ℕ) (now : List ℕ) : Type 0 where
+  pub same : length now ≡ length before
+  pub to : i ≤ items
+  pub count-is : count ≡ eights (table before) i
+  pub few : count ≤ 256
+  pub kept : (k : ℕ) → k < 16392 → ((j : ℕ) → k ≡ 8 * j + 7 → table before (8 * j) ≡ 8 → ⊥) → table now k ≡ table before k
+  pub number : (j : ℕ) → j < i → table before (8 * j) ≡ 8 → table now (8 * j + 7) ≡ eights (table before) j
+  pub index : (j : ℕ) → j < i → table before (8 * j) ≡ 8 → table now (16392 + eights (table before) j) ≡ j
+
+pub pass-start : {before : List ℕ} {items : ℕ} → Passing before items 0 0 before
+unfolding eights
+pass-start = record {
+  same = refl;
+  to = omega arith;
+  count-is = refl;
+  few = omega arith;
+  kept = λ k l n. refl;
+  number = λ j l. absurd (omega arith);
+  index = λ j l. absurd (omega arith);
+}
+
+module _ {before now : List ℕ} {items i count : ℕ} (P : Passing before items i count now) where
+  -- a kind is never written
+  kind-kept : (j : ℕ) → j < 2049 → table now (8 * j) ≡ table before (8 * j)
+  kind-kept j l = P .kept (8 * j) (omega arith) (λ m e k. omega arith)
+
+  column-kept : (j c : ℕ) → j < 2049 → c < 7 → table now (8 * j + c) ≡ table before (8 * j + c)
+  column-kept j c l m = P .kept (8 * j + c) (omega arith) (λ n e k. omega arith)
+
+  module _ (l : i < items) (few : items ≤ 2049) where
+    other : (table now (8 * i) ≡ 8 → ⊥) → Passing before items (i + 1) count now
+    other n =
+        let z : table before (8 * i) ≡ 8 → ⊥ = λ e. n (kind-kept i (omega arith) ∙ e) in
+        record {
+          same = P .same;
+          to = omega arith;
+          count-is = P .count-is ∙ sym (eights-none (table before) i z);
+          few = P .few;
+          kept = P .kept;
+          number = λ j m k. P .number j (less j m k z) k;
+          index = λ j m k. P .index j (less j m k z) k;
+        }
+      where
+        less : (j : ℕ) → j < i + 1 → table before (8 * j) ≡ 8 → (table before (8 * i) ≡ 8 → ⊥) → j < i
+        less j m k z = go (ltb j i) refl
+          where
+            go : (t : Bool) → ltb j i ≡ t → j < i
+            go true e = ltb-true j i e
+            go false e = let q : j ≡ i = omega (arith, ltb-false j i e) in absurd (z (rw q at k))
+
+    module _ {after : List ℕ} (k : table now (8 * i) ≡ 8) (m : count < 256) (G : GiveIs i count now after) (room : 16648 ≤ length before) where
+      kind : table before (8 * i) ≡ 8
+      kind = sym (kind-kept i (omega arith)) ∙ k
+
+      apart : (at : ℕ) → (at ≡ 16392 + count → ⊥) → (at ≡ 8 * i + 7 → ⊥) → table after at ≡ table now at
+      apart at a b =
+          ap (λ t. getD t at 0) (G .is) ∙ getD-set-other (set now (8 * i + 7) count) (16392 + count) at i 0 a
+          ∙ getD-set-other now (8 * i + 7) at count 0 b
+
+      numbered-here : table after (8 * i + 7) ≡ eights (table before) i
+      numbered-here =
+          ap (λ t. getD t (8 * i + 7) 0) (G .is) ∙ getD-set-other (set now (8 * i + 7) count) (16392 + count) (8 * i + 7) i 0 (λ z. omega arith)
+          ∙ getD-set-same now (8 * i + 7) count 0 (omega (arith, P .same)) ∙ P .count-is
+
+      indexed-here : table after (16392 + eights (table before) i) ≡ i
+      indexed-here =
+          let c : eights (table before) i ≡ count = sym (P .count-is) in
+          rw c (ap (λ t. getD t (16392 + count) 0) (G .is)
+          ∙ getD-set-same (set now (8 * i + 7) count) (16392 + count) i 0 (rw (length-set now (8 * i + 7) count) (omega (arith, P .same))))
+
+      given : Passing before items (i + 1) (count + 1) after
+      given = record {
+        same = give-length G ∙ P .same;
+        to = omega arith;
+        count-is = omega (arith, P .count-is, eights-one (table before) i kind);
+        few = omega arith;
+        kept = λ at a b. apart at (λ z. omega arith) (λ z. b i z kind) ∙ P .kept at a b;
+        number = λ j u v. at-number j u v (ltb j i) refl;
+        index = λ j u v. at-index j u v (ltb j i) refl;
+      }
+        where
+          at-number : (j : ℕ) → j < i + 1 → table before (8 * j) ≡ 8 → (t : Bool) → ltb j i ≡ t → table after (8 * j + 7) ≡ eights (table before) j
+          at-number j u v true e =
+              let q = ltb-true j i e in
+              apart (8 * j + 7) (λ z. omega arith) (λ z. omega arith) ∙ P .number j q v
+          at-number j u v false e = let q : j ≡ i = omega (arith, ltb-false j i e) in rw q numbered-here
+
+          at-index : (j : ℕ) → j < i + 1 → table before (8 * j) ≡ 8 → (t : Bool) → ltb j i ≡ t
+              → table after (16392 + eights (table before) j) ≡ j
+          at-index j u v true e =
+              let q = ltb-true j i e in
+              let w : eights (table before) j < count = omega (arith, P .count-is, eights-less (table before) j i v q) in
+              apart (16392 + eights (table before) j) (λ z. omega arith) (λ z. omega arith) ∙ P .index j q v
+          at-index j u v false e = let q : j ≡ i = omega (arith, ltb-false j i e) in rw q indexed-here
+
+    pub pass-more : {after : List ℕ} {c : ℕ} {r : Count} → 16648 ≤ length before → ItemIs i count now after r → r ≡ Count.Done c
+        → Passing before items (i + 1) c after
+    pass-more {after} {c} {r} room h e =
+        let s : Step i count now after (Count.Done c) = rw e at (h .is) in
+        ⊎-elim (λ a. rw (a .1, a .2) (other (a .0))) (λ a. rw (a .2) (given (a .0) (a .1) (a .3) room)) s
+
+-- ---- a document
+
+-- the root's node with its numbers, and the list of its unresolved values
+root-node : (root : Root) → rootNode (numbered root) ≡ numberNode 0 (rootNode root) .0
+unfolding numberNode
+root-node (fields fs) = refl
+root-node (elements es) = refl
+
+root-list : (root : Root) → (scope : Scope) × (unresolvedIn (numbered root) ≡ inNode scope (numberNode 0 (rootNode root) .0))
+unfolding numberNode unresolvedIn
+root-list (fields fs) = (some (record { path = []; before = end }), refl)
+root-list (elements es) = (none, refl)
+
+module _ {before : List ℕ} {items : ℕ} {h : ℕ → ℕ} {lo hi : ℕ} {root : Root} (X : Unnumbered before items h lo hi root) where
+  begins : 0 ≡ eights (table before) 0
+  unfolding eights
+  begins = refl
+
+  ends : 0 + table before (8 * 0 + 1) ≡ items
+  ends = omega (arith, X .whole)
+
+  total : (scope : Scope) → eights (table before) items ≡ length (inNode scope (numberNode 0 (rootNode root) .0))
+  total scope =
+      let c = counts-node (table before) h lo hi (rootNode root) 0 0 0 member-apart (member-fits (rootNode root)) begins (X .shown) (X .read) in
+      let d : numberNode 0 (rootNode root) .1 ≡ 0 + length (inNode scope (numberNode 0 (rootNode root) .0)) = count-node 0 (rootNode root) scope in
+      sym (ap (eights (table before)) ends) ∙ sym c ∙ omega arith
+
+  whole-length : eights (table before) items ≡ length (unresolvedIn (numbered root))
+  whole-length = let l = root-list root in total (l .0) ∙ ap length (sym (l .1))
+
+  standings : (Q : ℕ → Pieces → Type 0) → Holding (table before) h lo hi items Q
+      → Standings (table before) h lo hi items Q 0 (unresolvedIn (numbered root))
+  standings Q q =
+      let l = root-list root in
+      rw (l .1) (standings-node (table before) h lo hi items Q q (rootNode root) (l .0) 0 0 0 member-apart (member-fits (rootNode root))
+      (omega (arith, ends)) begins (X .shown) (X .read))
+
+  some-items : 0 < items
+  some-items = go root (X .shown)
+    where
+      go : (r : Root) → NodeAt (table before) h lo hi Any 0 0 (rootNode r) → 0 < items
+      go (fields fs) s = omega (arith, ends, fields-forward (table before) h lo hi Any fs (0 + 1) (0 + table before (8 * 0 + 1)) (s .1))
+      go (elements es) s = omega (arith, ends, elements-forward (table before) h lo hi Any es (0 + 1) (0 + table before (8 * 0 + 1)) (s .1))
+
+  -- all are numbered
+  module _ {now : List ℕ} {count : ℕ} (P : Passing before items items count now) (few : items ≤ 2049) where
+    given-all : Given (table before) h lo hi (table now) items
+    given-all = record {
+      kind = λ j l. kind-kept P j (omega arith);
+      column = λ j c l m. column-kept P j c (omega arith) m;
+      count = λ j l q. P .kept (8 * j + 7) (omega arith) (λ m e k. piece j m q (omega arith) k);
+      number = λ j l k. P .number j l k;
+    }
+      where
+        piece : (j m : ℕ) → 16 ≤ table before (8 * j) → m ≡ j → table before (8 * m) ≡ 8 → ⊥
+        piece j m q e k = let z : table before (8 * j) ≡ 8 = rw e at k in omega arith
+
+    abbrev Kept : ℕ → Pieces → Type 0
+    Kept j ps = PiecesAt (table now) h lo hi Same (j + 1) (j + table before (8 * j + 1)) ps
+
+    item-of : (b : ℕ) (u : Unresolved) → Standing (table before) h lo hi items Kept b u → ItemOf now items h lo hi b u
+    item-of b u S =
+        let j = S .item in
+        let l : j + 1 < items = S .inside in
+        let e : table now (16392 + b) ≡ j = ap (λ c. table now (16392 + c)) (S .number) ∙ P .index j (omega arith) (S .kind) in
+        let z : table now (8 * j + 1) ≡ table before (8 * j + 1) = column-kept P j 1 (omega arith) (omega arith) in
+        record {
+          inside = rw e (omega arith);
+          kind = rw e (kind-kept P j (omega arith) ∙ S .kind);
+          number = rw e (P .number j (omega arith) (S .kind) ∙ sym (S .number));
+          place = rw e (S .place ∙ sym (column-kept P (j + 1) 6 (omega arith) (omega arith)));
+          pieces = rw (e, z) (S .pieces);
+        }
+
+    indexed : (us : List Unresolved) (b : ℕ) → Standings (table before) h lo hi items Kept b us → Indexed now items h lo hi b us
+    indexed [] b s = tt
+    indexed (u ∷ us) b s = (item-of b u (s .0), indexed us (suc b) (s .1))
+
+    all-numbered : Numbered now items h lo hi count (numbered root)
+    all-numbered =
+        let us = unresolvedIn (numbered root) in
+        let c : count ≡ length us = P .count-is ∙ whole-length in
+        let q : Holding (table before) h lo hi items Kept =
+        λ j b ps l e s p a. shown-pieces (table before) h lo hi (table now) items given-all ps (j + 1) (j + table before (8 * j + 1)) (suc b) l e s p a in
+        record {
+          count = c;
+          few = few-none us 256 (omega (arith, P .few));
+          shown = rw (root-node root) (shown-node (table before) h lo hi (table now) items given-all (rootNode root) 0 0 0 member-apart
+              (member-fits (rootNode root)) some-items (omega (arith, ends)) begins (X .shown) (X .read));
+          indexed = indexed us 0 (standings Kept q);
+        }
+
+  -- there is one too many
+  module _ {now : List ℕ} {i count p : ℕ} (P : Passing before items i count now) (few : items ≤ 2049) (l : i < items)
+      (k : table now (8 * i) ≡ 8) (m : count ≡ 256) (q : p ≡ table now (8 * (i + 1) + 6)) where
+    one-too-many : (u : Unresolved) × (getElem? (unresolvedIn (numbered root)) 256 ≡ some u) × (p ≡ u .place)
+    one-too-many =
+        let us = unresolvedIn (numbered root) in
+        let kind : table before (8 * i) ≡ 8 = sym (kind-kept P i (omega arith)) ∙ k in
+        let s = many-some us 256 (omega (arith, P .count-is, whole-length, eights-less (table before) i items kind l)) in
+        let S = standing (table before) h lo hi items (λ j ps. Unit {0}) us 0 256 (s .0) (standings (λ j ps. Unit {0}) (λ j b ps a b′ c d e. tt)) (s .1) in
+        let e : S .item ≡ i = eights-same (table before) (S .item) i (S .kind) kind (omega (arith, P .count-is, S .number)) in
+        let inside : S .item + 1 < items = S .inside in
+        let place : s .0 .place ≡ table before (8 * (i + 1) + 6) = rw e at (S .place) in
+        (s .0, s .1, q ∙ column-kept P (i + 1) 6 (omega arith) (omega arith) ∙ sym place)
+
+module _ {before now : List ℕ} {items i count : ℕ} (P : Passing before items i count now) (few : items ≤ 2049) where
+  pub pass-done : items ≤ i → NumberIs before items now (Count.Done count)
+  pass-done l =
+      let e : i ≡ items = omega (arith, P .to) in
+      let R : Passing before items items count now = rw e at P in
+      record { same = P .same; is = λ root h lo hi X. all-numbered X R few }
+
+  pub pass-excess : {after : List ℕ} {p : DocAt} {r : Count} → i < items → ItemIs i count now after r → r ≡ Count.Excess p
+      → NumberIs before items after (Count.Excess p)
+  pass-excess {after} {p} {r} l h e =
+      let s : Step i count now after (Count.Excess p) = rw e at (h .is) in
+      record { same = h .same ∙ P .same; is = λ root t lo hi X. one-too-many X P few l (s .0) (s .1) (s .2) }
+
+pub ruleset reads = (read-there, read-past)
+
+pub ruleset gives = give-both
+
+pub ruleset steps = (item-other, item-excess, item-given)
+
+pub ruleset passes = (pass-start, pass-more, pass-done, pass-excess)

@@ -1,0 +1,85 @@
+// The second pass over a document's items: the unresolved values get their numbers, in the order of the items, and an index behind the
+// items leads from a number to its item.
+use chars::DocAt;
+ghost use mathlib.Core.Path.{_≡_};
+ghost use Prim.Native.Nat.{_≤_, _<_};
+ghost use lib.ListN.{length, set};
+ghost use Rattle.numbering.specs.Numbers.{ReadIs, GiveIs, ItemIs, NumberIs};
+
+/// How many unresolved values there are, all numbered; or the place of the first one too many.
+pub enum Count {
+    Done { count: usize },
+    Excess { place: DocAt },
+}
+
+// A number of the table, widened: what is asked is the index alone.
+fn wide(x: u16) -> usize
+    ensures { λ r. ⌜ r ≡ x ⌝ }
+{
+    x as usize
+}
+
+// A number of the table, 0 past its end.
+fn number_at(table: &[u16], at: usize) -> usize
+    ensures { λ r. ⌜ ReadIs (now (table .entry)) at r ⌝ }
+{
+    if at < table.len() { wide(table[at]) } else { 0 }
+}
+
+// A number that fits.
+fn put(table: &mut [u16], at: usize, x: usize)
+    requires { ⌜ (at < length (now table)) × (x < 65536) ⌝ }
+    ensures { λ _. ⌜ now (table .exit) ≡ set (now (table .entry)) at x ⌝ }
+{
+    table[at] = x as u16;
+}
+
+// Gives an item a number: in its last column, and in the index.
+fn give(table: &mut [u16], i: usize, number: usize)
+    requires { ⌜ (i < 2049) × (number < 256) × (16648 ≤ length (now table)) ⌝ }
+    ensures { λ _. ⌜ GiveIs i number (now (table .entry)) (now (table .exit)) ⌝ }
+{
+    put(table, 8 * i + 7, number);
+    put(table, 16392 + number, i);
+}
+
+// Numbers an item, if it is that of an unresolved value.
+fn number_item(table: &mut [u16], i: usize, count: usize) -> Count
+    requires { ⌜ (i < 2049) × (count ≤ 256) × (16648 ≤ length (now table)) ⌝ }
+    ensures { λ r. ⌜ ItemIs i count (now (table .entry)) (now (table .exit)) r ⌝ }
+{
+    let kind = number_at(table, 8 * i);
+    if kind == 8 {
+        if count == 256 {
+            // The place of an unresolved value is that of its first piece, which is the next item.
+            let place = number_at(table, 8 * (i + 1) + 6);
+            return Count::Excess {
+                place: DocAt(place),
+            };
+        }
+        give(table, i, count);
+        return Count::Done { count: count + 1 };
+    }
+    Count::Done { count }
+}
+
+/// Numbers the unresolved values among the first so many items of the table and fills the index from number to item, behind the items.
+pub fn number_items(table: &mut [u16], items: usize) -> Count
+    requires { ⌜ (items ≤ 2049) × (16648 ≤ length (now table)) ⌝ }
+    ensures { λ r. ⌜ NumberIs (now (table .entry)) items (now (table .exit)) r ⌝ }
+{
+    let mut count = 0;
+    let mut i = 0;
+    while i < items {
+        match number_item(table, i, count) {
+            Count::Excess { place } => {
+                return Count::Excess { place };
+            }
+            Count::Done { count: next } => {
+                count = next;
+            }
+        }
+        i += 1;
+    }
+    Count::Done { count }
+}

@@ -1,0 +1,15 @@
+pub mod Members
+pub mod Pieces
+pub mod ValueRuns
+pub mod Stepping
+pub mod Lists
+pub mod Parting
+pub mod Piecing
+pub mod Arrays
+pub mod Objects
+pub mod ElementLaws
+pub mod FieldLaws
+pub mod KeyedLaws
+pub mod ValueLaws
+pub mod StepLaws
+pub mod PieceLaws

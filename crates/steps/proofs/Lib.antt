@@ -1,0 +1,5 @@
+pub mod Beginnings
+pub mod Endings
+pub mod Parts
+pub mod Placing
+pub mod Wholes

@@ -1,0 +1,105 @@
+-- One law for each answer of the functions that end a piece, a field and an element.
+use mathlib.Core.Path.{_≡_, refl, sym, _∙_}
+use Prim.Native.Nat.{ℕ, _+_, _*_, _-_, _≤_, _<_, _^_}
+use mathlib.Core.List.{List}
+use native.Mathlib.Omega.{arith}
+use mir.Syntax.{w64}
+use mir.Val.{Fits}
+use lib.ListN.{length}
+use Rattle.chars.specs.declared.DocAt.{DocAt}
+use Rattle.chars.specs.declared.TextAt.{TextAt}
+use Rattle.chars.specs.declared.Cursor.{Cursor}
+use Rattle.fields.specs.Keys.{PutAsked, PutIs}
+use Rattle.items.specs.Writing.{ItemAsked, ItemIs}
+use Rattle.values.specs.declared.Run.{Run}
+use Rattle.steps.specs.Decisions.{PutPieceAsked, PutPieceIs, MoreAsked, MoreIs, Placeable, PlacedAsked, PlacedIs, Nameable, NamedAsked, NamedIs, BehindIs, elementItem, Listable, ListedAsked, ListedIs}
+use Rattle.steps.specs.declared.Listed.{Listed}
+use Rattle.steps.specs.declared.Valued.{Valued}
+use Rattle.steps.specs.declared.Found.{Found}
+use Rattle.steps.specs.declared.Piece.{Piece}
+use Rattle.steps.specs.declared.Step.{Step}
+
+-- ---- pieces
+
+module _ {s : List ℕ} {place from used : ℕ} {run : Run} {items : ℕ} {r : Piece} {table text : List ℕ} where
+  pub placed-end : r ≡ Piece.End → PlacedIs s place from used run items r table text table text Step.End
+  placed-end e = record { is = rw e (refl, refl, refl) }
+
+  pub placed-refused : {k : ℕ} {p : DocAt} → r ≡ Piece.Refused k p → PlacedIs s place from used run items r table text table text (Step.Refused k p)
+  placed-refused e = record { is = rw e (refl, refl, refl) }
+
+  pub placed-done : {f : Found} {table′ text′ : List ℕ} {q : Step} → r ≡ Piece.Done f → PutPieceIs s place from used items f table text table′ text′
+      → MoreIs run place f q → PlacedIs s place from used run items r table text table′ text′ q
+  placed-done e u v = record { is = rw e (u, v) }
+
+  module _ (a : PlacedAsked s place from used run items r table text) {f : Found} (e : r ≡ Piece.Done f) where
+    asked : Placeable s place from used run items table text (Piece.Done f)
+    asked = rw e at (a .is)
+
+    pub placed-puts : PutPieceAsked s place from used items f table text
+    placed-puts = asked .0
+
+    pub placed-adds : MoreAsked run f
+    placed-adds = asked .1
+
+pub ruleset places = (placed-end, placed-refused, placed-done, placed-puts, placed-adds)
+
+-- ---- fields
+
+module _ {s : List ℕ} {place items count : ℕ} {marks : List ℕ} {v : Valued} {table : List ℕ} where
+  pub named-refused : {closing : ℕ} {k : ℕ} {p : DocAt} → v ≡ Valued.Refused k p → NamedIs s place closing items count marks v table table (Listed.Refused k p)
+  named-refused e = record { is = rw e (refl, refl) }
+
+  pub named-done : {closing : ℕ} {c : Cursor} {n k : ℕ} {o z : TextAt} {table′ : List ℕ} {q : Listed} → v ≡ Valued.Done c n k o z
+      → PutIs marks table table′ count (n - items) (2 * place) k (o .0) (z .0) → BehindIs closing s (c .at .0) n q
+      → NamedIs s place closing items count marks v table table′ q
+  named-done e u w = record { is = rw e (u, w) }
+
+  module _ (a : NamedAsked s place items count marks v table) {c : Cursor} {n k : ℕ} {o z : TextAt} (e : v ≡ Valued.Done c n k o z) where
+    named-asked : Nameable s place items count marks table (Valued.Done c n k o z)
+    named-asked = rw e at (a .is)
+
+    pub named-puts : PutAsked marks table count (n - items) (2 * place) k (o .0) (z .0)
+    named-puts = named-asked .4
+
+    pub named-more : items ≤ n
+    named-more = named-asked .2
+
+    pub named-inside : c .at .0 ≤ length s
+    named-inside = named-asked .3
+
+    pub named-short : length s ≤ 32768
+    named-short = named-asked .0
+
+    pub named-fits : Fits w64 (2 * place)
+    named-fits = omega (arith, named-asked .1)
+
+pub ruleset names = (named-refused, named-done, named-puts, named-more, named-inside, named-short, named-fits)
+
+-- ---- elements
+
+module _ {s : List ℕ} {place : DocAt} {items : ℕ} {v : Valued} {table : List ℕ} where
+  pub listed-refused : {k : ℕ} {p : DocAt} → v ≡ Valued.Refused k p → ListedIs s (place .0) items v table table (Listed.Refused k p)
+  listed-refused e = record { is = rw e (refl, refl) }
+
+  pub listed-done : {c : Cursor} {n k : ℕ} {o z : TextAt} {table′ : List ℕ} {q : Listed} → v ≡ Valued.Done c n k o z
+      → ItemIs 0 (elementItem items n k o z place) table table′ → BehindIs 93 s (c .at .0) n q → ListedIs s (place .0) items v table table′ q
+  listed-done e u w = record { is = rw e (u, w) }
+
+  module _ (a : ListedAsked s (place .0) items v table) {c : Cursor} {n k : ℕ} {o z : TextAt} (e : v ≡ Valued.Done c n k o z) where
+    listed-asked : Listable s (place .0) items table (Valued.Done c n k o z)
+    listed-asked = rw e at (a .is)
+
+    pub listed-item : ItemAsked 0 (elementItem items n k o z place) table
+    listed-item = listed-asked .3
+
+    pub listed-more : items ≤ n
+    listed-more = listed-asked .1
+
+    pub listed-inside : c .at .0 ≤ length s
+    listed-inside = listed-asked .2
+
+    pub listed-short : length s ≤ 32768
+    listed-short = listed-asked .0
+
+pub ruleset listings = (listed-refused, listed-done, listed-item, listed-more, listed-inside, listed-short)
