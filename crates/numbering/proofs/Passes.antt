@@ -243,6 +243,7 @@ module _ {before : List ℕ} {items : ℕ} {h : ℕ → ℕ} {lo hi : ℕ} {root
           shown = rw (root-node root) (shown-node (table before) h lo hi (table now) items given-all (rootNode root) 0 0 0 member-apart
               (member-fits (rootNode root)) some-items (omega (arith, ends)) begins (X .shown) (X .read));
           indexed = indexed us 0 (standings Kept q);
+          whole = column-kept P 0 1 (omega arith) (omega arith) ∙ X .whole;
         }
 
   -- there is one too many

@@ -75,6 +75,7 @@ module _ (after : List ℕ) (items : ℕ) (h : ℕ → ℕ) (lo hi : ℕ) where
     pub few : getElem? (unresolvedIn root) 256 ≡ none
     pub shown : NodeAt (table after) h lo hi (λ m b. m ≡ b) 0 0 (rootNode root)
     pub indexed : Indexed 0 (unresolvedIn root)
+    pub whole : table after 1 ≡ items
 
   abbrev pub Counted : Count → Root → Type 0
   Counted (Count.Done c) root = Numbered c root

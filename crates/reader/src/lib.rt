@@ -19,7 +19,8 @@ ghost use Rattle.reader.specs.Readers.{Asked, PieceAsked, StepAsked, Arr
 
 // ---- the readers of array, object and value
 
-fn array(
+/// The elements of an array behind its `[`, and that bracket's partner.
+pub fn array(
     s: &[u8],
     c: Cursor,
     left: usize,
@@ -64,7 +65,8 @@ fn array(
     }
 }
 
-fn object(
+/// The fields of an object up to its closing byte, which is 256 for the end of the text.
+pub fn object(
     s: &[u8],
     c: Cursor,
     closing: u32,

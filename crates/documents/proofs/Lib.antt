@@ -1,0 +1,4 @@
+pub mod Openings
+pub mod Outlines
+pub mod Bodies
+pub mod Wholes
