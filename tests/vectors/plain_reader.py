@@ -241,7 +241,11 @@ class Reader:
             self.not_allowed()
         self.judge(elements, piece.place, MAX_PATH)
         self.at += 1
-        piece.text = b"".join(text for _, text in elements)
+        texts, ends = b"", b""
+        for _, text in elements:
+            texts += text
+            ends += len(texts).to_bytes(2, "big")
+        piece.text = texts + ends
         piece.number = len(elements)
 
     # ---- containers

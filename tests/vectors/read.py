@@ -10,7 +10,8 @@ small documents are its own; of a few documents they are written by hand as well
     stdout  for each vector a line 'number place' in decimal where it is refused; else a line '0 items unresolved' and,
             where the document has at most 64 bytes, a line for the root and for each item, 'kind size key text place
             number': the texts in hexadecimal, an empty one as '-'. The key of a piece is the whitespace before it; the
-            texts of a simple value's pieces are '-', as the value has them joined.
+            texts of a simple value's pieces are '-', as the value has them joined. The text of a substitution is
+            that of its path's elements, and behind it where each of them ends, 2 bytes, high byte first.
 """
 
 import pathlib
@@ -112,29 +113,34 @@ tree(
     "23 1 - - 13 0",
 )
 # Unresolved values, numbered by first byte: the outer one before those inside it.
-tree(b"a=${b}", 1, "7 3 - - 0 0", "8 2 61 - 0 0", "25 1 - 62 2 1")
-tree(b"a=${? b.c }", 1, "7 3 - - 0 0", "8 2 61 - 0 0", "26 1 - 6263 2 2")
+tree(b"a=${b}", 1, "7 3 - - 0 0", "8 2 61 - 0 0", "25 1 - 620001 2 1")
+tree(b"a=${? b.c }", 1, "7 3 - - 0 0", "8 2 61 - 0 0", "26 1 - 626300010002 2 2")
+# Where the elements of a path end is in its text.
+tree(b"a=${a.bc}", 1, "7 3 - - 0 0", "8 2 61 - 0 0", "25 1 - 61626300010003 2 2")
+tree(b"a=${ab.c}", 1, "7 3 - - 0 0", "8 2 61 - 0 0", "25 1 - 61626300020003 2 2")
+tree(b'a=${""}', 1, "7 3 - - 0 0", "8 2 61 - 0 0", "25 1 - 0000 2 1")
+tree(b'a=${"".b.""}', 1, "7 3 - - 0 0", "8 2 61 - 0 0", "25 1 - 62000000010001 2 3")
 tree(
     b"a=x ${b} 1", 1,
     "7 5 - - 0 0",
-    "8 4 61 - 0 0", "21 1 - 78 2 0", "25 1 20 62 4 1", "20 1 20 31 9 0",
+    "8 4 61 - 0 0", "21 1 - 78 2 0", "25 1 20 620001 4 1", "20 1 20 31 9 0",
 )
 tree(
     b"a=[${x}]${y},b=${z}", 3,
     "7 8 - - 0 0",
-    "8 5 61 - 0 0", "22 3 - - 2 0", "8 2 - - 3 1", "25 1 - 78 3 1", "25 1 - 79 8 1",
-    "8 2 62 - 13 2", "25 1 - 7a 15 1",
+    "8 5 61 - 0 0", "22 3 - - 2 0", "8 2 - - 3 1", "25 1 - 780001 3 1", "25 1 - 790001 8 1",
+    "8 2 62 - 13 2", "25 1 - 7a0001 15 1",
 )
 tree(
     b"a.b={c=${x}}", 1,
     "7 6 - - 0 0",
-    "7 5 61 - 0 0", "7 4 62 - 2 0", "23 3 - - 4 0", "8 2 63 - 5 0", "25 1 - 78 7 1",
+    "7 5 61 - 0 0", "7 4 62 - 2 0", "23 3 - - 4 0", "8 2 63 - 5 0", "25 1 - 780001 7 1",
 )
 # A simple value inside a piece of an unresolved one.
 tree(
     b"a=${x}{b=1 2}", 1,
     "7 7 - - 0 0",
-    "8 6 61 - 0 0", "25 1 - 78 2 1", "23 4 - - 6 0", "5 3 62 312032 7 0", "20 1 - - 9 0", "20 1 - - 11 0",
+    "8 6 61 - 0 0", "25 1 - 780001 2 1", "23 4 - - 6 0", "5 3 62 312032 7 0", "20 1 - - 9 0", "20 1 - - 11 0",
 )
 
 # ---- The order of judgements

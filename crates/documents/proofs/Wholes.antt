@@ -9,7 +9,7 @@ use lib.Dec.{leb}
 use lib.ListN.{length, getElem?}
 use borrow.Author.Tests.{le-leb, lt-leb}
 use Rattle.answers.specs.Theory.Sound.{clash}
-use Rattle.rules.specs.Refusals.{Refusal, placed, nowhere, Read, got, rejected}
+use Rattle.rules.specs.Refusals.{Refusal, placed, nowhere, numberOf, Read, got, rejected}
 use Rattle.rules.specs.Utf8.{illFormed}
 use Rattle.rules.specs.Environment.{Entry, entriesOf, textOf}
 use Rattle.rules.specs.Tree.{Root, numbered, numberNode}
@@ -29,7 +29,7 @@ use Rattle.numbering.specs.Reading.{as-read}
 use Rattle.numbering.specs.declared.Count.{Count}
 use Rattle.steps.specs.declared.Listed.{Listed}
 use Rattle.documents.specs.Roots.{ScratchAsked, Rooted, RootIs}
-use Rattle.documents.specs.Documents.{Denies, Stands, ReadAs, Rooting, CountedIs, DocumentIs, InputsAs, InputsIs}
+use Rattle.documents.specs.Documents.{itemsOf, readingOf, ReadAs, Rooting, CountedIs, DocumentIs, InputsAs, InputsIs}
 use Rattle.documents.specs.declared.Reading.{Reading}
 
 -- ---- the numbers
@@ -83,6 +83,7 @@ module _ {s : List ℕ} {items : ℕ} {table table′ : List ℕ} {r : Count} (h
             root = n .shown;
             whole = n .whole;
             few = ρ .few;
+            counted = sym (ap itemsOf (ρ .read));
             count = n .count;
             index = n .indexed;
             order = first-byte-order s d q;
@@ -105,6 +106,26 @@ pub ruleset counts = (counted-done, counted-excess)
 
 -- ---- documents
 
+-- what an answer says is an equation
+told : (s x t : List ℕ) (r : Reading) → ReadAs s (readDocument s) x t r → r ≡ readingOf (λ d. d) (readDocument s) (itemsOf (readRoot s))
+told s x t (Reading.Done items n) u = rw (u .1, u .2 .counted, u .2 .count) refl
+told s x t (Reading.Refused k p) u =
+    rw (u .1) (ap (λ (j : ℕ). Reading.Refused j p) (u .2) ∙ ap (λ (q : ℕ). Reading.Refused (numberOf (u .0)) (doc q)) (u .3))
+
+document-of : {s table text x t : List ℕ} {r : Reading} → ReadAs s (readDocument s) x t r → length x ≡ length table → length t ≡ length text
+    → DocumentIs s table text x t r
+document-of {s} {table} {text} {x} {t} {r} u a b = record { answer = told s x t r u; is = u; kept-table = a; kept-text = b }
+
+told-inputs : (others : Bool) (s e x t : List ℕ) (r : Reading) → InputsAs others s e x t r
+    → r ≡ readingOf (λ y. y .document) (inputs others s e) (itemsOf (readRoot s))
+told-inputs others s e x t (Reading.Done items n) u = rw (u .1, u .2 .counted, u .2 .count) refl
+told-inputs others s e x t (Reading.Refused k p) u =
+    rw (u .1) (ap (λ (j : ℕ). Reading.Refused j p) (u .2) ∙ ap (λ (q : ℕ). Reading.Refused (numberOf (u .0)) (doc q)) (u .3))
+
+inputs-of : {others : Bool} {s e table text x t : List ℕ} {r : Reading} → InputsAs others s e x t r → length x ≡ length table → length t ≡ length text
+    → InputsIs others s e table text x t r
+inputs-of {others} {s} {e} {table} {text} {x} {t} {r} u a b = record { answer = told-inputs others s e x t r u; is = u; kept-table = a; kept-text = b }
+
 ill-at : (s : List ℕ) (o : Option ℕ) → illFormed s ≡ o → {p : DocAt} → Ill.At p ≡ illAt o → readDocument s ≡ denied (placed 2 (p .0))
 unfolding readDocument
 ill-at s none e {p} q = clash (cc (q))
@@ -118,11 +139,7 @@ formed-at s (some at) e q = clash (cc (q))
 
 module _ {s table text : List ℕ} {i : Ill} (f : i ≡ illAt (illFormed s)) where
   pub document-ill : {p : DocAt} → i ≡ Ill.At p → DocumentIs s table text table text (Reading.Refused 2 p)
-  document-ill {p} e = record {
-    is = (placed 2 (p .0), ill-at s (illFormed s) refl (sym e ∙ f), refl, refl);
-    kept-table = refl;
-    kept-text = refl;
-  }
+  document-ill {p} e = document-of (placed 2 (p .0), ill-at s (illFormed s) refl (sym e ∙ f), refl, refl) refl refl
 
   module _ (e : i ≡ Ill.Nowhere) {x t : List ℕ} {r : Listed} (m : RootIs s table text x t r) where
     formed : illFormed s ≡ none
@@ -131,11 +148,7 @@ module _ {s table text : List ℕ} {i : Ill} (f : i ≡ illAt (illFormed s)) whe
     pub document-refused : {k : ℕ} {p : DocAt} → r ≡ Listed.Refused k p → DocumentIs s table text x t (Reading.Refused k p)
     document-refused {k} {p} q =
         let u : Rooted s x t (Listed.Refused k p) = rw q at (m .is) in
-        record {
-          is = (u .0, by-root s formed ∙ ap ofRoot (u .1) ∙ of-rejected (u .0), u .2, u .3);
-          kept-table = m .kept-table;
-          kept-text = m .kept-text;
-        }
+        document-of (u .0, by-root s formed ∙ ap ofRoot (u .1) ∙ of-rejected (u .0), u .2, u .3) (m .kept-table) (m .kept-text)
 
     module _ {c : Cursor} {n : ℕ} (q : r ≡ Listed.Done c n) where
       rooted : Rooted s x t (Listed.Done c n)
@@ -145,11 +158,10 @@ module _ {s table text : List ℕ} {i : Ill} (f : i ≡ illAt (illFormed s)) whe
       document-few = rooted .2
 
       pub document-done : {x′ : List ℕ} {v : Reading} → CountedIs s n x x′ v → DocumentIs s table text x′ t v
-      document-done w = record {
-        is = w .is t (c .at .0) (record { tree = rooted .0; formed = formed; read = rooted .1; few = rooted .2; shown = rooted .3; whole = rooted .4 });
-        kept-table = w .kept ∙ m .kept-table;
-        kept-text = m .kept-text;
-      }
+      document-done w =
+          document-of
+          (w .is t (c .at .0) (record { tree = rooted .0; formed = formed; read = rooted .1; few = rooted .2; shown = rooted .3; whole = rooted .4 }))
+          (w .kept ∙ m .kept-table) (m .kept-text)
 
 pub document-room : {s table text x t : List ℕ} {r : Listed} → ScratchAsked s 0 table text → RootIs s table text x t r → 16648 ≤ length x
 document-room a m = omega (arith, a .table-room, m .kept-table)
@@ -181,7 +193,7 @@ inputs-scratch l m n = record { short = l; inside = omega arith; table-room = m;
 
 module _ {others : Bool} {s e table text : List ℕ} where
   refusal : inputs others s e ≡ denied (nowhere 1) → InputsIs others s e table text table text (Reading.Refused 1 (doc 0))
-  refusal q = record { is = (nowhere 1, q, refl, refl); kept-table = refl; kept-text = refl }
+  refusal q = inputs-of (nowhere 1, q, refl, refl) refl refl
 
   pub inputs-others : others ≡ false → InputsIs others s e table text table text (Reading.Refused 1 (doc 0))
   inputs-others f = refusal (no-others others s e f)
@@ -195,7 +207,7 @@ module _ {others : Bool} {s e table text : List ℕ} where
 
     module _ (q : b ≡ true) {x t : List ℕ} {r : Reading} (m : DocumentIs s table text x t r) where
       pub inputs-done : InputsIs others s e table text x t r
-      inputs-done = record { is = go r refl; kept-table = m .kept-table; kept-text = m .kept-text }
+      inputs-done = inputs-of (go r refl) (m .kept-table) (m .kept-text)
         where
           go : (w : Reading) → r ≡ w → InputsAs others s e x t w
           go (Reading.Done items n) g =

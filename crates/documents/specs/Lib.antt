@@ -1,2 +1,3 @@
 pub mod Roots
 pub mod Documents
+pub mod One

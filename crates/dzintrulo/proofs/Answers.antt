@@ -3,9 +3,10 @@ use mathlib.Core.Path.{_≡_, refl, sym, _∙_, ap}
 use mathlib.Core.Bool.{Bool, true, false, cond}
 use mathlib.Core.List.{List, [], _∷_}
 use mathlib.Core.Option.{Option, none, some}
-use Prim.Native.Nat.{ℕ, zero, suc, _+_, _-_, _*_, _≤_, _<_, _%_, _^_}
+use Prim.Native.Nat.{ℕ, zero, suc, _+_, _-_, _*_, _≤_, _<_, _^_}
+use native.Mathlib.Nat.{le-trans, le-of-lt, lt-of-le-of-lt, mul-le-mul-right}
 use native.Mathlib.Omega.{arith}
-use lib.Dec.{leb, eqb}
+use lib.Dec.{T, leb, leb→le, eqb}
 use lib.ListN.{length, take, drop}
 use borrow.Author.Tests.{le-leb, leb-true, ne-eqb, eq-eqb, eqb-true}
 use Rattle.answers.specs.Ask.{mem}
@@ -19,7 +20,7 @@ use Rattle.rules.specs.LookUp.{isWhole, valueNamed}
 use Rattle.rules.specs.Jobs as J
 use Rattle.rules.specs.Theory.PathsEnd.{path-ends}
 use Rattle.rules.specs.Theory.LookUpSteps.{look-up-long, look-up-not-whole, look-up-ill-formed}
-use Rattle.rules.specs.Theory.LookUps.{lookUpNumbers, look-up-part, look-up-refused}
+use Rattle.rules.specs.Theory.LookUps.{lookUpNumbers, look-up-part, look-up-refused, look-up-place}
 use Rattle.chars.specs.Cursor.{doc, illAt}
 use Rattle.chars.specs.declared.DocAt.{DocAt}
 use Rattle.chars.specs.declared.RecAt.{RecAt}
@@ -28,7 +29,7 @@ use Rattle.sheet.specs.Records.{rec}
 use Rattle.paths.specs.Holding.{Held}
 use Rattle.paths.specs.Texts.{PathIs, HeldTexts, readOf}
 use Rattle.paths.specs.declared.PathRead.{PathRead}
-use Rattle.dzintrulo.specs.Answers.{foundOf, packed, packedFound, partOf}
+use Rattle.dzintrulo.specs.Answers.{foundOf, packed, packedFound, HasRoom, Packable, partOf}
 use Rattle.dzintrulo.specs.Walks.{ReachedIs}
 use Rattle.dzintrulo.specs.declared.Found.{Found}
 
@@ -209,27 +210,63 @@ module _ (table text path : List ℕ) {r : Found} (k : r ≡ foundOf (J.lookUpJo
         let (m, a, b) = look-up-refused table text path (positive (job .number) n) in
         rw (a, b)
 
-  packed-kind : Kind job r → packedFound r ≡ packed job
-  unfolding packed
-  packed-kind (a-part n e) =
+  packable-kind : Kind job r → Packable r
+  packable-kind (a-part n e) =
       let l = short-table n in
       let (h, i) = look-up-part table text path n in
-      let s : job .start % 65536 ≡ job .start = omega arith in
-      let t : job .size % 65536 ≡ job .size = omega arith in
-      rw (e, packed, eq-eqb _ _ n, s, t)
-  packed-kind (a-refusal n e) =
+      rw e (record { room = (omega arith, omega arith) })
+  packable-kind (a-refusal n e) =
       let (m, a, b) = look-up-refused table text path (positive (job .number) n) in
-      let l = among-under (job .number) lookUpNumbers numbers-under m in
-      let s : job .number % 64 ≡ job .number = omega arith in
-      rw (e, packed, ne-eqb _ _ n, s)
+      let (p, q) = look-up-place table text path in
+      rw e (record { room = (among-under (job .number) lookUpNumbers numbers-under m, omega arith) })
+
+  pub packable-answer : Packable r
+  packable-answer = packable-kind kind-of
+
+  packed-kind : Kind job r → packedFound r ≡ packed job
+  unfolding packed
+  packed-kind (a-part n e) = rw (e, packed, eq-eqb _ _ n)
+  packed-kind (a-refusal n e) = rw (e, packed, ne-eqb _ _ n)
 
   pub packed-answer : {v : ℕ} → v ≡ packedFound r → v ≡ packed job
   packed-answer e = e ∙ packed-kind kind-of
 
-pub pack-part : {f : Found} {start size : RecAt} → f ≡ Found.Part start size → start .0 % 65536 * 64 + size .0 % 65536 * 4194304 ≡ packedFound f
+-- Nothing of what is packed overflows, wherever in the 64 bits it stands.
+
+half : (x w : ℕ) → x < 65536 → T (leb (65536 * w) (2 ^ 62)) → x * w ≤ 2 ^ 62
+half x w h t = le-trans (mul-le-mul-right w (le-of-lt h)) (leb→le (65536 * w) (2 ^ 62) t)
+
+sum-fits : (x y : ℕ) → x ≤ 2 ^ 62 → y ≤ 2 ^ 62 → x + y < 2 ^ 64
+sum-fits x y h k = omega arith
+
+module _ {f : Found} (k : Packable f) where
+  module _ {start size : RecAt} (z : f ≡ Found.Part start size) where
+    part-room : HasRoom (Found.Part start size)
+    part-room = rw z at (k .room)
+
+    pub start-fits : (w : ℕ) → T (leb (65536 * w) (2 ^ 62)) → start .0 * w < 2 ^ 64
+    start-fits w t = lt-of-le-of-lt (half (start .0) w (part-room .0) t) (omega arith)
+
+    pub size-fits : (w : ℕ) → T (leb (65536 * w) (2 ^ 62)) → size .0 * w < 2 ^ 64
+    size-fits w t = lt-of-le-of-lt (half (size .0) w (part-room .1) t) (omega arith)
+
+    pub both-fit : (v w : ℕ) → T (leb (65536 * v) (2 ^ 62)) → T (leb (65536 * w) (2 ^ 62)) → start .0 * v + size .0 * w < 2 ^ 64
+    both-fit v w t u = sum-fits (start .0 * v) (size .0 * w) (half (start .0) v (part-room .0) t) (half (size .0) w (part-room .1) u)
+
+  module _ {number : ℕ} {place : DocAt} (z : f ≡ Found.Refused number place) where
+    refusal-room : HasRoom (Found.Refused number place)
+    refusal-room = rw z at (k .room)
+
+    pub place-fits : (w : ℕ) → T (leb (65536 * w) (2 ^ 62)) → place .0 * w < 2 ^ 64
+    place-fits w t = lt-of-le-of-lt (half (place .0) w (refusal-room .1) t) (omega arith)
+
+    pub refusal-fits : (w : ℕ) → T (leb (65536 * w) (2 ^ 62)) → number + place .0 * w < 2 ^ 64
+    refusal-fits w t = sum-fits number (place .0 * w) (omega (arith, refusal-room .0)) (half (place .0) w (refusal-room .1) t)
+
+pub pack-part : {f : Found} {start size : RecAt} → f ≡ Found.Part start size → start .0 * 64 + size .0 * 4194304 ≡ packedFound f
 pack-part z = rw z
 
-pub pack-refusal : {f : Found} {number : ℕ} {place : DocAt} → f ≡ Found.Refused number place → number % 64 + place .0 % 65536 * 64 ≡ packedFound f
+pub pack-refusal : {f : Found} {number : ℕ} {place : DocAt} → f ≡ Found.Refused number place → number + place .0 * 64 ≡ packedFound f
 pack-refusal z = rw z
 
 pub ruleset nameds = (named-reached, named-refused)
@@ -237,5 +274,7 @@ pub ruleset nameds = (named-reached, named-refused)
 pub ruleset jobs = (long-table, long-text, long-path, not-whole, not-utf8, looked)
 
 pub ruleset packs = (pack-part, pack-refusal)
+
+pub ruleset rooms = (tt, start-fits, size-fits, both-fit, place-fits, refusal-fits)
 
 pub ruleset handed = (part-handed, none-handed)

@@ -6,12 +6,12 @@ use chars::TextAt;
 use paths::PathRead;
 use sheet::End;
 ghost use mathlib.Core.Path.{_≡_};
-ghost use Prim.Native.Nat.{_≤_, _+_, _*_, _%_};
+ghost use Prim.Native.Nat.{_≤_};
 ghost use lib.ListN.{length, take, drop};
 ghost use Rattle.rules.specs.Paths.{pathText};
 ghost use Rattle.rules.specs.LookUp.{valueNamed};
 ghost use Rattle.rules.specs.Jobs.{lookedUp, lookUpJob};
-ghost use Rattle.dzintrulo.specs.Answers.{foundOf, partOf, packed, packedFound};
+ghost use Rattle.dzintrulo.specs.Answers.{foundOf, partOf, packed, packedFound, Packable};
 ghost use Rattle.dzintrulo.specs.Walks.{NextIs, WalkIs, PartIs, ReachedIs};
 
 /// A looked-up value: where it starts in the table's records and how long it is; or a refusal.
@@ -159,18 +159,19 @@ pub fn look_up<'a>(table: &'a [u8], text: &[u8], path: &[u8]) -> &'a [u8]
 
 // A found value's or a refusal's 64 bits.
 fn pack(found: Found) -> u64
+    requires { ⌜ Packable found ⌝ }
     ensures { λ r. ⌜ r ≡ packedFound found ⌝ }
 {
     match found {
         Found::Part { start, size } => {
             let s = start.0 as u64;
             let z = size.0 as u64;
-            s % 65536 * 64 + z % 65536 * 4194304
+            s * 64 + z * 4194304
         }
         Found::Refused { number, place } => {
             let n = number as u64;
             let p = place.0 as u64;
-            n % 64 + p % 65536 * 64
+            n + p * 64
         }
     }
 }

@@ -1,4 +1,4 @@
 pub mod Bytes
 pub mod Starts
 pub mod Places
-pub mod Spelling
+pub mod Includes

@@ -6,14 +6,13 @@ use mathlib.Core.List.{List}
 use mathlib.Core.Option.{Option, none, some}
 use lib.Dec.{ltb, eqb}
 use lib.ListN.{length}
-use Rattle.rules.specs.Bytes.{Text, byteAt}
+use Rattle.rules.specs.Bytes.{byteAt}
 use Rattle.rules.specs.Refusals.{Refusal, numberOf, placeOf, notAllowed, Scan, ok, fail}
-use Rattle.rules.specs.Pieces.{startsSimple, startsWith}
+use Rattle.rules.specs.Pieces.{startsSimple}
 use Rattle.rules.specs.Reading as rules
 use Rattle.grammar.specs.declared.Start.{Start}
 use Rattle.grammar.specs.declared.Turn.{Turn}
 use Rattle.grammar.specs.declared.Place.{Place}
-use Rattle.grammar.specs.declared.Letters.{Letters}
 
 -- ---- what begins at a place
 
@@ -67,13 +66,3 @@ Placed m len at (Place.Refused n p) = (x : Refusal) × (m ≡ fail x) × (n ≡ 
 
 pub record PlaceIs (m : Scan ℕ) (s : List ℕ) (at : ℕ) (r : Place) : Type 0 where
   pub is : Placed m (length s) at r
-
--- ---- words
-
--- letters stand at a place, with the cursor past them, or they do not
-abbrev pub Spells : Text → List ℕ → ℕ → Letters → Type 0
-Spells w s at (Letters.Yes c) = (startsWith w s at ≡ true) × (c .at .0 ≡ at + length w) × (c .at .0 ≤ length s)
-Spells w s at Letters.No = startsWith w s at ≡ false
-
-pub record SpelledIs (w : Text) (s : List ℕ) (at : ℕ) (r : Letters) : Type 0 where
-  pub is : Spells w s at r

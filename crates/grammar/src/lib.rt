@@ -2,17 +2,17 @@
 // and where a value stands behind its key.
 ghost use mathlib.Core.Path.{_≡_};
 ghost use mathlib.Core.Bool.{true};
-ghost use mathlib.Core.List.{_∷_, []};
 ghost use Prim.Native.Nat.{_+_, _≤_, _<_};
 ghost use lib.ListN.{length};
 ghost use Rattle.rules.specs.Bytes.{byteAt};
 ghost use Rattle.rules.specs.Characters.{afterGap};
-ghost use Rattle.rules.specs.Paths.{wordInclude, startsInclude};
+ghost use Rattle.rules.specs.Paths.{startsInclude};
 ghost use Rattle.rules.specs.Reading as rules;
 ghost use Rattle.scan.specs.Scan.{EndIs};
-ghost use Rattle.grammar.specs.Decisions.{closes, StartIs, NotAllowedIs, TurnIs, PlaceIs, SpelledIs};
+ghost use Rattle.grammar.specs.Decisions.{closes, StartIs, NotAllowedIs, TurnIs, PlaceIs};
 use chars::Cursor;
 use chars::DocAt;
+use scan::unquoted::Letters;
 
 /// What begins at a place of a value; behind an opening byte the cursor past it.
 pub enum Start {
@@ -164,65 +164,12 @@ pub fn value_place(s: &[u8], c: Cursor) -> Place
 
 // ---- the keys that start with `include`
 
-// Whether letters stand here, and the place after them.
-enum Letters {
-    Yes(Cursor),
-    No,
-}
-
-fn letter(s: &[u8], c: Cursor, a: u32) -> Letters
-    requires { ⌜ (length (now s) ≤ 32768) × (c .at .0 ≤ length (now s)) × (a < 128) ⌝ }
-    ensures { λ r. ⌜ SpelledIs (a ∷ []) (now (s .entry)) (c .at .0) r ⌝ }
-{
-    let d = c.at;
-    let at = d.0;
-    let b = chars::byte_at(s, at);
-    if b == a {
-        let here = scan::look(s, c);
-        let next = here.next;
-        return Letters::Yes(next);
-    }
-    Letters::No
-}
-
-fn four(s: &[u8], c: Cursor, a: u32, b: u32, d: u32, e: u32) -> Letters
-    requires { ⌜ (length (now s) ≤ 32768) × (c .at .0 ≤ length (now s)) × (a < 128) × (b < 128) × (d < 128) × (e < 128) ⌝ }
-    ensures { λ r. ⌜ SpelledIs (a ∷ b ∷ d ∷ e ∷ []) (now (s .entry)) (c .at .0) r ⌝ }
-{
-    let Letters::Yes(second) = letter(s, c, a) else {
-        return Letters::No;
-    };
-    let Letters::Yes(third) = letter(s, second, b) else {
-        return Letters::No;
-    };
-    let Letters::Yes(fourth) = letter(s, third, d) else {
-        return Letters::No;
-    };
-    letter(s, fourth, e)
-}
-
-fn spells_include(s: &[u8], c: Cursor) -> Letters
-    requires { ⌜ (length (now s) ≤ 32768) × (c .at .0 ≤ length (now s)) ⌝ }
-    ensures { λ r. ⌜ SpelledIs wordInclude (now (s .entry)) (c .at .0) r ⌝ }
-{
-    let Letters::Yes(second) = letter(s, c, 105) else {
-        return Letters::No;
-    };
-    let Letters::Yes(third) = letter(s, second, 110) else {
-        return Letters::No;
-    };
-    let Letters::Yes(fourth) = letter(s, third, 99) else {
-        return Letters::No;
-    };
-    four(s, fourth, 108, 117, 100, 101)
-}
-
 /// Whether the key here starts with `include` alone or before a dot.
 pub fn starts_include(s: &[u8], c: Cursor) -> bool
     requires { ⌜ (length (now s) ≤ 32768) × (c .at .0 ≤ length (now s)) ⌝ }
     ensures { λ r. ⌜ r ≡ startsInclude (now (s .entry)) (c .at .0) ⌝ }
 {
-    let Letters::Yes(end) = spells_include(s, c) else {
+    let Letters::Yes(end) = scan::unquoted::spells_include(s, c) else {
         return false;
     };
     if scan::unquoted::stops_unquoted(s, end) {

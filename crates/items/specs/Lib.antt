@@ -4,4 +4,5 @@ pub mod Moving
 pub mod Joining
 pub mod Parts
 pub mod Keys
+pub mod Unique
 pub mod Writing

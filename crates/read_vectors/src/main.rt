@@ -1,56 +1,12 @@
 // Reads documents from standard input, one after another to its end. A vector is a document and an environment; each of the
 // two is a length of 4 bytes, high byte first, and then so many bytes. For a refusal it writes a line 'number place' in
 // decimal; else a line '0 items unresolved' and, where the document has at most 64 bytes, a line for the root and each item:
-// 'kind size key text place number', the two texts in hexadecimal, an empty one as '-'. A part that is cut off or too long
-// ends the program.
+// 'kind size key text place number', the two texts in hexadecimal, an empty one as '-'. The text of a substitution is that of
+// its path's elements with their ends behind it, 2 bytes each. A part that is cut off or too long ends the program.
 use chars::DocAt;
 use documents::Reading;
-use libc::STDIN_FILENO;
 use libc::STDOUT_FILENO;
 ghost use Prim.Native.Nat.{_≤_, _<_};
-
-fn wide(b: u8) -> usize
-    ensures { λ r. ⌜ r < 256 ⌝ }
-{
-    b as usize
-}
-
-fn length_of(head: &[u8; 4]) -> usize
-    ensures { λ r. ⌜ r < 4294967296 ⌝ }
-{
-    let high = wide(head[0]) * 256 + wide(head[1]);
-    let low = wide(head[2]) * 256 + wide(head[3]);
-    high * 65536 + low
-}
-
-// Reads so many bytes into buf, and answers how many; -1 after a line that says what is wrong.
-fn read_bytes(buf: &mut [u8], length: usize) -> isize
-    requires { ⌜ length < 4294967296 ⌝ }
-{
-    let n = io::count(length as isize, buf);
-    if n < length {
-        io::write_all(STDOUT_FILENO, b"a part is too long\n");
-        return -1;
-    }
-    if io::read_full(STDIN_FILENO, &mut buf[..n]) < n {
-        io::write_all(STDOUT_FILENO, b"a part is cut off\n");
-        return -1;
-    }
-    length as isize
-}
-
-// Reads the next part into buf, and answers how many bytes it has; -1 at the end of the input too.
-fn read_part(buf: &mut [u8]) -> isize {
-    let mut head = [0u8; 4];
-    let got = io::read_full(STDIN_FILENO, &mut head);
-    if got == 4 {
-        return read_bytes(buf, length_of(&head));
-    }
-    if got > 0 {
-        io::write_all(STDOUT_FILENO, b"a length is cut off\n");
-    }
-    -1
-}
 
 fn widen(n: u16) -> usize
     ensures { λ r. ⌜ r < 65536 ⌝ }
@@ -70,13 +26,13 @@ fn column(table: &[u16], i: usize, c: usize) -> usize
 
 fn print_byte(text: &[u8], at: usize) {
     if at < text.len() {
-        io::print_hex(STDOUT_FILENO, wide(text[at]) as u64, 2);
+        io::print_hex(STDOUT_FILENO, cases::wide(text[at]) as u64, 2);
     }
 }
 
 fn print_bytes(text: &[u8], offset: usize, size: usize)
     requires { ⌜ offset < 65536 ⌝ }
-    requires { ⌜ size < 65536 ⌝ }
+    requires { ⌜ size < 262144 ⌝ }
 {
     let mut k = 0;
     while k < size {
@@ -87,7 +43,7 @@ fn print_bytes(text: &[u8], offset: usize, size: usize)
 
 fn print_text(text: &[u8], offset: usize, size: usize)
     requires { ⌜ offset < 65536 ⌝ }
-    requires { ⌜ size < 65536 ⌝ }
+    requires { ⌜ size < 262144 ⌝ }
 {
     if size == 0 {
         io::write_all(STDOUT_FILENO, b"-");
@@ -96,9 +52,16 @@ fn print_text(text: &[u8], offset: usize, size: usize)
     }
 }
 
-fn print_number(n: usize) {
-    io::print_decimal(STDOUT_FILENO, n as u64);
-    io::write_all(STDOUT_FILENO, b" ");
+// The size of item i's text; behind the texts of a substitution's path stand their ends, 2 bytes each.
+fn text_size(table: &[u16], i: usize) -> usize
+    requires { ⌜ i < 2049 ⌝ }
+    ensures { λ r. ⌜ r < 262144 ⌝ }
+{
+    let size = column(table, i, 5);
+    if column(table, i, 0) < 25 {
+        return size;
+    }
+    size + 2 * column(table, i, 7)
 }
 
 // The texts of item i. Those of a simple value's pieces are not looked at: the value has them joined.
@@ -108,7 +71,7 @@ fn print_texts(table: &[u16], text: &[u8], i: usize, looked: bool)
     if looked {
         print_text(text, column(table, i, 2), column(table, i, 3));
         io::write_all(STDOUT_FILENO, b" ");
-        print_text(text, column(table, i, 4), column(table, i, 5));
+        print_text(text, column(table, i, 4), text_size(table, i));
         io::write_all(STDOUT_FILENO, b" ");
     } else {
         io::write_all(STDOUT_FILENO, b"- - ");
@@ -121,12 +84,11 @@ fn print_item(table: &[u16], text: &[u8], i: usize, simple: usize) -> usize
 {
     let kind = column(table, i, 0);
     let size = column(table, i, 1);
-    print_number(kind);
-    print_number(size);
+    cases::print_number(kind);
+    cases::print_number(size);
     print_texts(table, text, i, simple <= i);
-    print_number(column(table, i, 6));
-    io::print_decimal(STDOUT_FILENO, column(table, i, 7) as u64);
-    io::write_all(STDOUT_FILENO, b"\n");
+    cases::print_number(column(table, i, 6));
+    cases::print_last(column(table, i, 7));
     if kind < 6 { i + size } else { simple }
 }
 
@@ -143,15 +105,13 @@ fn print_items(table: &[u16], text: &[u8], count: usize)
 
 fn print_read(items: usize, unresolved: usize) {
     io::write_all(STDOUT_FILENO, b"0 ");
-    print_number(items);
-    io::print_decimal(STDOUT_FILENO, unresolved as u64);
-    io::write_all(STDOUT_FILENO, b"\n");
+    cases::print_number(items);
+    cases::print_last(unresolved);
 }
 
 fn print_refused(number: u8, place: DocAt) {
-    print_number(wide(number));
-    io::print_decimal(STDOUT_FILENO, place.0 as u64);
-    io::write_all(STDOUT_FILENO, b"\n");
+    cases::print_number(cases::wide(number));
+    cases::print_last(place.0);
 }
 
 // The root's line and those of so many items.
@@ -178,12 +138,12 @@ fn run(document: &[u8], environment: &[u8]) {
 // Runs the next vector, and answers whether there was one.
 fn run_next() -> bool {
     let mut document = [0u8; 40000];
-    let a = read_part(&mut document);
+    let a = cases::read_part(&mut document);
     if a < 0 {
         return false;
     }
     let mut environment = [0u8; 10000];
-    let b = read_part(&mut environment);
+    let b = cases::read_part(&mut environment);
     if b < 0 {
         return false;
     }

@@ -1,119 +1,50 @@
--- One law for each answer of the reader of arrays.
-use mathlib.Core.Path.{_≡_, refl, sym, ap, _∙_}
-use Prim.Native.Nat.{ℕ, suc, _+_, _*_, _-_, _≤_, _<_}
-use mathlib.Core.Bool.{Bool, true, false}
-use mathlib.Core.List.{List, [], _∷_, _++_}
+-- Arrays as containers, and the contracts of their readers by those of containers.
+use mathlib.Core.Path.{_≡_, refl}
+use Prim.Native.Nat.{ℕ}
+use mathlib.Core.List.{List}
 use native.Mathlib.Omega.{arith}
-use lib.Dec.{eqb}
-use lib.ListN.{length}
-use Rattle.rules.specs.Bytes.{byteAt}
-use Rattle.rules.specs.Refusals.{Refusal, ended, Read, got, rejected, readThen}
-use Rattle.rules.specs.Tree.{Node, Elements, Fields}
-use Rattle.rules.specs.Reading.{theEnd, FieldRead, fieldsOf, elementsFrom, elementAt, fieldAt, arrayAt, objectAt}
-use Rattle.rules.specs.Theory.ValueSteps.{valueIn, element-forward, field-forward}
-use Rattle.chars.specs.Cursor.{doc}
-use Rattle.chars.specs.declared.DocAt.{DocAt}
-use Rattle.chars.specs.declared.Cursor.{Cursor}
-use Rattle.scan.specs.Scan.{GapIs}
-use Rattle.scan.specs.declared.Gap.{Gap}
-use Rattle.grammar.specs.Decisions.{Turns, TurnIs}
-use Rattle.grammar.specs.declared.Turn.{Turn}
-use Rattle.items.specs.Parts.{numbers, letters, part, back, back-length}
+use Rattle.rules.specs.Refusals.{got, readThen}
+use Rattle.rules.specs.Tree.{Node, Elements}
+use Rattle.rules.specs.Reading.{elementsFrom, elementAt, arrayAt}
+use Rattle.rules.specs.Theory.ValueSteps.{valueIn, element-forward}
 use Rattle.steps.specs.Decisions.{nestingOf}
 use Rattle.steps.specs.declared.Listed.{Listed}
-use Rattle.reader.specs.Readers.{Free, Asked, Reached, partedAfter, Array, Object, AnElement, AField, ArrayIs, ObjectIs, ElementIs, FieldIs}
-use Rattle.reader.specs.Measures.{need}
+use Rattle.reader.specs.Readers.{Array, AnElement, ArrayIs, ElementIs}
 use Rattle.reader.proofs.Members as M
-use Rattle.reader.proofs.Lists.{Holding, elementsHeld, one-element, ListInv, MemberRead, list-start, list-turn, list-wider, list-asks, list-in-table, list-in-text}
+use Rattle.reader.proofs.Lists.{elementsHeld, one-element}
+use Rattle.reader.proofs.Containers.{Container, WholeRead, OneRead, WholeIs, MemberIs, containers}
 
--- the loop's invariant
-pub record Inv (s : List ℕ) (at₀ left items₀ : ℕ) (table₀ text₀ : List ℕ) (at items : ℕ) (table text : List ℕ) : Type 0 where
-  pub is : ListInv elementsHeld 93 (elementAt (valueIn s) s (nestingOf left)) s at₀ items₀ table₀ text₀ at items table text
-  pub asked : Asked s at₀ left items₀ table₀ text₀
-
-by-members : (s : List ℕ) (left at items : ℕ) → arrayAt (valueIn s) s (nestingOf left) at items
+pub by-members : (s : List ℕ) (left at items : ℕ) → arrayAt (valueIn s) s (nestingOf left) at items
     ≡ readThen (M.membersIn 93 (elementAt (valueIn s) s (nestingOf left)) s at items) (λ ms end n. got (elementsFrom ms) end n)
 unfolding arrayAt
 by-members s left at items = refl
 
-pub array-start : {s : List ℕ} {at₀ left items₀ : ℕ} {table₀ text₀ : List ℕ} {g : Gap} → Asked s at₀ left items₀ table₀ text₀ → GapIs s at₀ g
-    → Inv s at₀ left items₀ table₀ text₀ (g .next .at .0) items₀ table₀ text₀
-array-start {s} {at₀} {left} {items₀} {table₀} {text₀} {g} a h = record {
-  is = list-start elementsHeld 93 (elementAt (valueIn s) s (nestingOf left)) a (g .next .at .0) (h .is) (h .forward) (h .inside);
-  asked = a;
+abbrev pub arrayLike : Container
+arrayLike = record {
+  Member = Node;
+  Whole = Elements;
+  holding = elementsHeld;
+  closing = 93;
+  memberAt = λ s left. elementAt (valueIn s) s (nestingOf left);
+  wholeAt = λ s left. arrayAt (valueIn s) s (nestingOf left);
+  whole = elementsFrom;
+  by-members = by-members;
+  forward = λ s left h. element-forward s (nestingOf left) (omega arith) (omega arith);
 }
 
-module _ {s : List ℕ} {at₀ left items₀ : ℕ} {table₀ text₀ : List ℕ} {at items : ℕ} {x t : List ℕ} (I : Inv s at₀ left items₀ table₀ text₀ at items x t) where
-  a : Asked s at₀ left items₀ table₀ text₀
-  a = I .asked
+module _ {s : List ℕ} {at left items : ℕ} {table text table′ text′ : List ℕ} {r : Listed} where
+  pub array-is : WholeIs arrayLike s at left items table text table′ text′ r → ArrayIs s at left items table text table′ text′ r
+  array-is h = record { is = go r (h .is); kept-table = h .kept-table; kept-text = h .kept-text }
+    where
+      go : (r : Listed) → WholeRead arrayLike s at left items table′ text′ r → Array s at left items table′ text′ r
+      go (Listed.Done c n) v = (elementsFrom (v .0), v .1, v .2, v .3)
+      go (Listed.Refused k p) v = v
 
-  J : ListInv elementsHeld 93 (elementAt (valueIn s) s (nestingOf left)) s at₀ items₀ table₀ text₀ at items x t
-  J = I .is
+  pub element-is : ElementIs s at left items table text table′ text′ r → MemberIs arrayLike s at left items table text table′ text′ r
+  element-is h = record { is = go r (h .is); kept-table = h .kept-table; kept-text = h .kept-text }
+    where
+      go : (r : Listed) → AnElement s at left items table′ text′ r → OneRead arrayLike s at left items table′ text′ r
+      go (Listed.Done c n) v = record { member = v .0; is = v .1; reached = v .2; held = rw (one-element (v .0)) (v .3) }
+      go (Listed.Refused k p) v = v
 
-  module _ {r : Turn} (h : TurnIs 93 s at r) where
-    pub array-close : {c : Cursor} → r ≡ Turn.Close c → ArrayIs s at₀ left items₀ table₀ text₀ x t (Listed.Done c items)
-    array-close {c} e =
-        let k : Turns 93 s at (Turn.Close c) = rw e at (h .is) in
-        let whole = M.rest-close 93 (elementAt (valueIn s) s (nestingOf left)) s (J .rest) (k .0) in
-        record {
-          is = (
-            elementsFrom (J .done),
-            by-members s left at₀ items₀ ∙ rw (whole, sym (k .1)) refl,
-            record { forward = omega (arith, J .behind, k .2); inside = k .3; more = J .more; few = J .few },
-            list-wider elementsHeld (numbers x) (letters (2 * at₀) t) (2 * at₀) (2 * at) (2 * c .at .0) 0 (items - items₀) (J .done) (omega (arith, k .2)) (J .held),
-          );
-          kept-table = J .kept-table;
-          kept-text = J .kept-text;
-        }
-
-    pub array-end : r ≡ Turn.End → ArrayIs s at₀ left items₀ table₀ text₀ x t (Listed.Refused 4 (doc (length s)))
-    array-end e =
-        let k : Turns 93 s at Turn.End = rw e at (h .is) in
-        record {
-          is = (ended s, by-members s left at₀ items₀ ∙ rw (M.rest-end 93 (elementAt (valueIn s) s (nestingOf left)) s (J .rest) (k .0) (k .1)) refl, refl, refl);
-          kept-table = J .kept-table;
-          kept-text = J .kept-text;
-        }
-
-    module _ (e : r ≡ Turn.Member) {y z : List ℕ} {q : Listed} (m : ElementIs s at left items (part (8 * (items - items₀)) x) (part (2 * (at - at₀)) t) y z q) where
-      pub array-refused : {k : ℕ} {p : DocAt} → q ≡ Listed.Refused k p
-          → ArrayIs s at₀ left items₀ table₀ text₀ (back (8 * (items - items₀)) x y) (back (2 * (at - at₀)) t z) (Listed.Refused k p)
-      array-refused {k} {p} f =
-          let u : Turns 93 s at Turn.Member = rw e at (h .is) in
-          let v : AnElement s at left items y z (Listed.Refused k p) = rw f at (m .is) in
-          record {
-            is = (v .0, by-members s left at₀ items₀ ∙ rw (M.rest-refused 93 (elementAt (valueIn s) s (nestingOf left)) s (J .rest) (u .0) (u .1) (v .1)) refl, v .2, v .3);
-            kept-table = back-length (8 * (items - items₀)) x y (list-in-table a J) (m .kept-table) ∙ J .kept-table;
-            kept-text = back-length (2 * (at - at₀)) t z (list-in-text a J) (m .kept-text) ∙ J .kept-text;
-          }
-
-      pub array-turn : {c : Cursor} {n : ℕ} → q ≡ Listed.Done c n
-          → Inv s at₀ left items₀ table₀ text₀ (c .at .0) n (back (8 * (items - items₀)) x y) (back (2 * (at - at₀)) t z)
-      array-turn {c} {n} f =
-          let u : Turns 93 s at Turn.Member = rw e at (h .is) in
-          let v : AnElement s at left items y z (Listed.Done c n) = rw f at (m .is) in
-          let w : MemberRead elementsHeld 93 (elementAt (valueIn s) s (nestingOf left)) s at items y z (c .at .0) n =
-          record { member = v .0; is = v .1; reached = v .2; held = rw (one-element (v .0)) (v .3) } in
-          record {
-            is = list-turn elementsHeld 93 (elementAt (valueIn s) s (nestingOf left)) a J w (m .kept-table) (m .kept-text) (element-forward s (nestingOf left) (omega (arith, a .nested)) (omega arith)) (u .0) (u .1);
-            asked = a;
-          }
-
-      pub array-less : {c : Cursor} {n : ℕ} → q ≡ Listed.Done c n → length s - c .at .0 < length s - at
-      array-less {c} {n} f =
-          let v : AnElement s at left items y z (Listed.Done c n) = rw f at (m .is) in
-          omega (arith, v .2 .forward, v .2 .inside)
-
-  pub array-asks : Asked s at left items (part (8 * (items - items₀)) x) (part (2 * (at - at₀)) t)
-  array-asks = list-asks a J
-
-  pub array-falls : (n : ℕ) → need 5 s at₀ ≡ n → need 4 s at < n
-  array-falls n e = omega (arith, J .behind, J .inside)
-
-  pub array-table : 8 * (items - items₀) ≤ length x
-  array-table = list-in-table a J
-
-  pub array-text : 2 * (at - at₀) ≤ length t
-  array-text = list-in-text a J
-
-pub ruleset arrays = (array-start, array-close, array-end, array-refused, array-turn, array-less, array-asks, array-falls, array-table, array-text)
+pub ruleset arrays = (containers, array-is, element-is)

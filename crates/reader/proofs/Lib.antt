@@ -5,6 +5,7 @@ pub mod Stepping
 pub mod Lists
 pub mod Parting
 pub mod Piecing
+pub mod Containers
 pub mod Arrays
 pub mod Objects
 pub mod ElementLaws

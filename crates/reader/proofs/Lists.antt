@@ -81,6 +81,15 @@ pub record MemberRead {A : Type 0} (K : Holding A) (closing : ℕ) (memberAt : �
   pub reached : Reached s (suc at) items after n
   pub held : K .H (numbers table) (letters (2 * at) text) (2 * at) (2 * after) 0 (n - items) (member ∷ [])
 
+-- the members so far leave room in the table and the text part
+module _ {A : Type 0} {K : Holding A} {closing : ℕ} {memberAt : ℕ → ℕ → Read A} {s : List ℕ} {at₀ left items₀ : ℕ} {table₀ text₀ : List ℕ} {at items : ℕ} {x t : List ℕ}
+    (a : Asked s at₀ left items₀ table₀ text₀) (I : ListInv K closing memberAt s at₀ items₀ table₀ text₀ at items x t) where
+  pub list-in-table : 8 * (items - items₀) ≤ length x
+  list-in-table = omega (arith, a .table-room, I .kept-table, I .few, I .more)
+
+  pub list-in-text : 2 * (at - at₀) ≤ length t
+  list-in-text = omega (arith, a .text-room, I .kept-text, I .inside, I .behind)
+
 module _ {A : Type 0} (K : Holding A) (closing : ℕ) (memberAt : ℕ → ℕ → Read A) {s : List ℕ} {at₀ left items₀ : ℕ} {table₀ text₀ : List ℕ}
     (a : Asked s at₀ left items₀ table₀ text₀) where
   pub list-start : (at : ℕ) → at ≡ afterGap s at₀ → at₀ ≤ at → at ≤ length s → ListInv K closing memberAt s at₀ items₀ table₀ text₀ at items₀ table₀ text₀
@@ -101,10 +110,10 @@ module _ {A : Type 0} (K : Holding A) (closing : ℕ) (memberAt : ℕ → ℕ �
       (ly : length y ≡ length (part (8 * (items - items₀)) x)) (lz : length z ≡ length (part (2 * (at - at₀)) t))
       (forward : (p i : ℕ) (b : A) (end k : ℕ) → memberAt p i ≡ got b end k → p < end) where
     in-table : 8 * (items - items₀) ≤ length x
-    in-table = omega (arith, a .table-room, I .kept-table, I .few, I .more)
+    in-table = list-in-table a I
 
     in-text : 2 * (at - at₀) ≤ length t
-    in-text = omega (arith, a .text-room, I .kept-text, I .inside, I .behind)
+    in-text = list-in-text a I
 
     there : 2 * at₀ + 2 * (at - at₀) ≡ 2 * at
     there = omega (arith, I .behind)
@@ -168,12 +177,3 @@ list-asks {A} {K} {closing} {memberAt} {s} {at₀} {left} {items₀} {table₀} 
   table-room = omega (arith, a .table-room, I .kept-table, I .more, part-length (8 * (items - items₀)) x);
   text-room = omega (arith, a .text-room, I .kept-text, I .behind, I .inside, part-length (2 * (at - at₀)) t);
 }
-
--- what the needs on numbers ask
-module _ {A : Type 0} {K : Holding A} {closing : ℕ} {memberAt : ℕ → ℕ → Read A} {s : List ℕ} {at₀ left items₀ : ℕ} {table₀ text₀ : List ℕ} {at items : ℕ} {x t : List ℕ}
-    (a : Asked s at₀ left items₀ table₀ text₀) (I : ListInv K closing memberAt s at₀ items₀ table₀ text₀ at items x t) where
-  pub list-in-table : 8 * (items - items₀) ≤ length x
-  list-in-table = omega (arith, a .table-room, I .kept-table, I .few, I .more)
-
-  pub list-in-text : 2 * (at - at₀) ≤ length t
-  list-in-text = omega (arith, a .text-room, I .kept-text, I .inside, I .behind)

@@ -20,10 +20,10 @@ use Rattle.rules.specs.Theory.PathsEnd.{Verdict, passes, Fitting, judge-verdict
 use Rattle.rules.specs.Theory.ValueSteps.{valueIn}
 use Rattle.items.specs.Codes.{codeOf, referenceCode, pathTexts, pathEnds, pathBytes}
 use Rattle.items.specs.Holds.{TextAt, ReferenceAt, Shown, ElementsAt, FieldsAt}
-use Rattle.items.specs.Moving.{Grown, move-elements, move-fields}
+use Rattle.items.specs.Moving.{Grown, Agree, move-elements, move-fields}
 use Rattle.items.specs.Parts.{numbers, letters, back, grown-back, spells-take}
 use Rattle.values.specs.Runs.{KindIs}
-use Rattle.reader.specs.Readers.{Free, Reached, PieceAsked, FoundIs}
+use Rattle.reader.specs.Readers.{Free, Reached, PieceAsked, PartAt, FoundIs}
 use Rattle.steps.specs.Decisions.{nestingOf}
 use Rattle.steps.specs.declared.Found.{Found}
 
@@ -221,56 +221,56 @@ module _ {s : List ℕ} {at w left items : ℕ} {x t : List ℕ} (a : PieceAsked
       same : (i end : ℕ) (k : ℕ) → 8 * i ≤ k → k < 8 * end → getD y k 0 ≡ getD y (k + 8 * 0) 0
       same i end k p l = let e : k + 8 * 0 ≡ k = omega arith in ap (λ (n : ℕ). getD y n 0) (sym e)
 
-      pub brace-found : {fs : Fields} → startOf s at ≡ some brace → f .kind ≡ 7
-          → objectAt (valueIn s) 125 s (nestingOf (left - 1)) (at + 1) (items + 1) ≡ got fs (f .next .at .0) (f .items)
-          → FieldsAt (numbers y) (letters (2 * (at + 1)) z) (2 * (at + 1)) (2 * f .next .at .0) Free 0 (f .items - (items + 1)) fs
+      -- a container, whose members stand in the table and the text part as H says
+      module _ (H : (ℕ → ℕ) → ℕ → ℕ → ℕ → ℕ → Type 0)
+          (move : (h h′ : ℕ → ℕ) (lo hi lo′ hi′ : ℕ) → Grown h h′ lo hi lo′ hi′ → (d i end : ℕ) → Agree (numbers y) (numbers y) d i end
+          → H h lo hi i end → H h′ lo′ hi′ (i + d) (end + d)) where
+        moved : H (letters (2 * (at + 1)) z) (2 * (at + 1)) (2 * f .next .at .0) 0 (f .items - (items + 1))
+            → H (letters w (back (2 * (at + 1) - w) t z)) w (2 * f .next .at .0) 0 (f .items - items - 1)
+        moved h =
+            let i : 0 + 0 ≡ 0 = omega arith in
+            let j : f .items - (items + 1) + 0 ≡ f .items - items - 1 = omega arith in
+            let h′ : H (letters (w + (2 * (at + 1) - w)) z) (2 * (at + 1)) (2 * f .next .at .0) 0 (f .items - (items + 1)) = rw base h in
+            rw (i, j) at (move (letters (w + (2 * (at + 1) - w)) z) (letters w (back (2 * (at + 1) - w) t z)) (2 * (at + 1)) (2 * f .next .at .0) w (2 * f .next .at .0) far 0 0 (f .items - (items + 1)) (same 0 (f .items - (items + 1))) h′)
+
+      container-found : (start : Start) (nd : Node) → startOf s at ≡ some start → read start ≡ got (node nd) (f .next .at .0) (f .items)
+          → KindIs (f .kind) (node nd) → 5 < f .kind → f .kind ≤ 10
+          → PartAt (numbers y) (letters w (back (2 * (at + 1) - w) t z)) w (2 * f .next .at .0) at f 0 (f .items - items - 1) (node nd)
           → FoundIs s at w left items y (back (2 * (at + 1) - w) t z) f
-      brace-found {fs} starts d e h = record {
-        start = brace;
+      container-found start nd starts e kind large small held = record {
+        start = start;
         starts = starts;
-        part = node (object fs);
-        is = brace-is ∙ rw e refl;
+        part = node nd;
+        is = e;
         reached = record { forward = omega (arith, r .forward); inside = r .inside; more = omega (arith, r .more); few = r .few };
-        kind = d;
-        small = omega arith;
+        kind = kind;
+        small = small;
         at-fits = omega arith;
         size-fits = omega arith;
         number-fits = omega arith;
         front = λ p. absurd (omega arith);
         short = λ p. absurd (omega arith);
-        held = (ap (λ (j : ℕ). 16 + j) d, held);
+        held = held;
       }
-        where
-          held : FieldsAt (numbers y) (letters w (back (2 * (at + 1) - w) t z)) w (2 * f .next .at .0) Free 0 (f .items - items - 1) fs
-          held =
-              let i : 0 + 0 ≡ 0 = omega arith in
-              let j : f .items - (items + 1) + 0 ≡ f .items - items - 1 = omega arith in
-              let h′ : FieldsAt (numbers y) (letters (w + (2 * (at + 1) - w)) z) (2 * (at + 1)) (2 * f .next .at .0) Free 0 (f .items - (items + 1)) fs = rw base h in
-              rw (i, j) at (move-fields Free (numbers y) (numbers y) far 0 fs 0 (f .items - (items + 1)) (same 0 (f .items - (items + 1))) h′)
+
+      pub brace-found : {fs : Fields} → startOf s at ≡ some brace → f .kind ≡ 7
+          → objectAt (valueIn s) 125 s (nestingOf (left - 1)) (at + 1) (items + 1) ≡ got fs (f .next .at .0) (f .items)
+          → FieldsAt (numbers y) (letters (2 * (at + 1)) z) (2 * (at + 1)) (2 * f .next .at .0) Free 0 (f .items - (items + 1)) fs
+          → FoundIs s at w left items y (back (2 * (at + 1) - w) t z) f
+      brace-found {fs} starts d e h =
+          container-found brace (object fs) starts (brace-is ∙ rw e refl) d (omega arith) (omega arith) (
+            ap (λ (j : ℕ). 16 + j) d,
+            moved (λ h lo hi i end. FieldsAt (numbers y) h lo hi Free i end fs)
+                (λ h h′ lo hi lo′ hi′ G d i end. move-fields Free (numbers y) (numbers y) G d fs i end) h,
+          )
 
       pub bracket-found : {es : Elements} → startOf s at ≡ some bracket → f .kind ≡ 6
           → arrayAt (valueIn s) s (nestingOf (left - 1)) (at + 1) (items + 1) ≡ got es (f .next .at .0) (f .items)
           → ElementsAt (numbers y) (letters (2 * (at + 1)) z) (2 * (at + 1)) (2 * f .next .at .0) Free 0 (f .items - (items + 1)) es
           → FoundIs s at w left items y (back (2 * (at + 1) - w) t z) f
-      bracket-found {es} starts d e h = record {
-        start = bracket;
-        starts = starts;
-        part = node (array es);
-        is = bracket-is ∙ rw e refl;
-        reached = record { forward = omega (arith, r .forward); inside = r .inside; more = omega (arith, r .more); few = r .few };
-        kind = d;
-        small = omega arith;
-        at-fits = omega arith;
-        size-fits = omega arith;
-        number-fits = omega arith;
-        front = λ p. absurd (omega arith);
-        short = λ p. absurd (omega arith);
-        held = (ap (λ (j : ℕ). 16 + j) d, held);
-      }
-        where
-          held : ElementsAt (numbers y) (letters w (back (2 * (at + 1) - w) t z)) w (2 * f .next .at .0) Free 0 (f .items - items - 1) es
-          held =
-              let i : 0 + 0 ≡ 0 = omega arith in
-              let j : f .items - (items + 1) + 0 ≡ f .items - items - 1 = omega arith in
-              let h′ : ElementsAt (numbers y) (letters (w + (2 * (at + 1) - w)) z) (2 * (at + 1)) (2 * f .next .at .0) Free 0 (f .items - (items + 1)) es = rw base h in
-              rw (i, j) at (move-elements Free (numbers y) (numbers y) far 0 es 0 (f .items - (items + 1)) (same 0 (f .items - (items + 1))) h′)
+      bracket-found {es} starts d e h =
+          container-found bracket (array es) starts (bracket-is ∙ rw e refl) d (omega arith) (omega arith) (
+            ap (λ (j : ℕ). 16 + j) d,
+            moved (λ h lo hi i end. ElementsAt (numbers y) h lo hi Free i end es)
+                (λ h h′ lo hi lo′ hi′ G d i end. move-elements Free (numbers y) (numbers y) G d es i end) h,
+          )

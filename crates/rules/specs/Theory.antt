@@ -31,6 +31,7 @@ pub mod TableSteps
 pub mod Tables
 pub mod LookUpSteps
 pub mod PathNumbers
+pub mod PathPlaces
 pub mod LookUps
 pub mod LaidOut
 pub mod NamedValues

@@ -88,7 +88,7 @@ unfoldable mutual
   highestPiece (substituted gap s ps) = highestPiece ps
 
 -- "blends are numbered from 0 by first byte, hidden ones too": a node's first byte is before those inside it, so the numbers go by
--- preorder. Each function gives the next number too.
+-- preorder (module FirstBytes of Theory). Each function gives the next number too.
 unfoldable mutual
   pub numberNode : ℕ → Node → Node × ℕ
   numberNode b (simple x) = (simple x, b)

@@ -14,7 +14,7 @@ use Rattle.rules.specs.Theory.Places.{byte-past}
 use Rattle.rules.specs.Pieces.{wordTrue, wordFalse, wordNull, startsWith}
 use Rattle.chars.specs.declared.Cursor.{Cursor}
 use Rattle.scan.specs.Scan.{SeenIs}
-use Rattle.scan.specs.Words.{Spells, SpelledIs, WordIs}
+use Rattle.scan.specs.Words.{Spells, SpelledIs, spelled-inside, WordIs}
 use Rattle.scan.specs.declared.Seen.{Seen}
 use Rattle.scan.specs.declared.unquoted.Letters.{Letters}
 use Rattle.scan.specs.declared.unquoted.Word.{Word}
@@ -90,9 +90,6 @@ module _ {s : List ℕ} {at : ℕ} {r : Seen} (k : SeenIs s at r) {a : ℕ} (l :
 
   pub letter-no : (r .ch ≡ a → ⊥) → SpelledIs (a ∷ []) s at Letters.No
   letter-no n = record { is = starts-one s at a l ∙ not-byte k a l n }
-
-pub spelled-inside : {w : Text} {s : List ℕ} {at : ℕ} {r : Letters} {c : Cursor} → SpelledIs w s at r → r ≡ Letters.Yes c → c .at .0 ≤ length s
-spelled-inside {w} {s} {at} {r} {c} k e = let y : Spells w s at (Letters.Yes c) = rw e at (k .is) in y .2
 
 module _ {s : List ℕ} {at a : ℕ} {r : Letters} (k : SpelledIs (a ∷ []) s at r) {w : Text} where
   pub first-no : r ≡ Letters.No → SpelledIs (a ∷ w) s at Letters.No

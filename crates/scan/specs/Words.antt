@@ -6,6 +6,7 @@ use mathlib.Core.List.{List}
 use lib.ListN.{length}
 use Rattle.rules.specs.Bytes.{Text}
 use Rattle.rules.specs.Pieces.{wordTrue, wordFalse, wordNull, startsWith}
+use Rattle.chars.specs.declared.Cursor.{Cursor}
 use Rattle.scan.specs.declared.unquoted.Letters.{Letters}
 use Rattle.scan.specs.declared.unquoted.Word.{Word}
 
@@ -16,6 +17,9 @@ Spells w s at Letters.No = startsWith w s at ≡ false
 
 pub record SpelledIs (w : Text) (s : List ℕ) (at : ℕ) (r : Letters) : Type 0 where
   pub is : Spells w s at r
+
+pub spelled-inside : {w : Text} {s : List ℕ} {at : ℕ} {r : Letters} {c : Cursor} → SpelledIs w s at r → r ≡ Letters.Yes c → c .at .0 ≤ length s
+spelled-inside {w} {s} {at} {r} {c} k e = let y : Spells w s at (Letters.Yes c) = rw e at (k .is) in y .2
 
 -- the first of the words that stands at a place, in the order of the rules
 abbrev pub Says : List ℕ → ℕ → Word → Type 0

@@ -4,6 +4,7 @@ ghost use mathlib.Core.List.{_∷_, []};
 ghost use Prim.Native.Nat.{_≤_, _<_};
 ghost use lib.ListN.{length};
 ghost use Rattle.answers.specs.Ask.{mem};
+ghost use Rattle.rules.specs.Paths.{wordInclude};
 ghost use Rattle.rules.specs.Pieces.{forbidden, stopsUnquoted, startsSimple, unquotedEnd, wordFalse};
 ghost use Rattle.scan.specs.Scan.{EndIs};
 ghost use Rattle.scan.specs.Words.{SpelledIs, WordIs};
@@ -73,8 +74,8 @@ pub fn starts_simple(s: &[u8], c: Cursor) -> bool
     true
 }
 
-// Whether letters stand here, and the place after them.
-enum Letters {
+/// Whether letters stand here, and the place after them.
+pub enum Letters {
     Yes(Cursor),
     No,
 }
@@ -116,6 +117,23 @@ fn spells_false(s: &[u8], c: Cursor) -> Letters
         Letters::Yes(next) => four(s, next, 97, 108, 115, 101),
         Letters::No => Letters::No,
     }
+}
+
+/// Whether `include` stands here.
+pub fn spells_include(s: &[u8], c: Cursor) -> Letters
+    requires { ⌜ (length (now s) ≤ 32768) × (c .at .0 ≤ length (now s)) ⌝ }
+    ensures { λ r. ⌜ SpelledIs wordInclude (now (s .entry)) (c .at .0) r ⌝ }
+{
+    let Letters::Yes(second) = letter(s, c, 105) else {
+        return Letters::No;
+    };
+    let Letters::Yes(third) = letter(s, second, 110) else {
+        return Letters::No;
+    };
+    let Letters::Yes(fourth) = letter(s, third, 99) else {
+        return Letters::No;
+    };
+    four(s, fourth, 108, 117, 100, 101)
 }
 
 /// A word that unquoted text starts with, and the place after it.

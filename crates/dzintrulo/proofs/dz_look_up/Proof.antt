@@ -1,5 +1,5 @@
--- laws: packed-answer
-use Rattle.dzintrulo.proofs.Answers.{packed-answer}
+-- laws: (packed-answer, packable-answer)
+use Rattle.dzintrulo.proofs.Answers.{packed-answer, packable-answer}
 use borrow.Author.Needs.{needs}
 use Rattle.dzintrulo.proofs.dz_look_up.Statement.{statement}
 use Rattle.dzintrulo.proofs.dz_look_up.Tie as tie
@@ -10,7 +10,7 @@ look-up-answer-requires : tie.Need-look-up-answer-requires
 look-up-answer-requires c κs = search needs
 
 pack-requires : tie.Need-pack-requires
-pack-requires c κs = search needs
+pack-requires c κs = search packable-answer
 
 returns : tie.Need-returns
 returns c = search packed-answer

@@ -1,5 +1,5 @@
--- laws: packs
-use Rattle.dzintrulo.proofs.Answers.{packs}
+-- laws: (packs, rooms)
+use Rattle.dzintrulo.proofs.Answers.{packs, rooms}
 use borrow.Author.Needs.{needs}
 use Rattle.dzintrulo.proofs.pack.Statement.{statement}
 use Rattle.dzintrulo.proofs.pack.Tie as tie
@@ -10,13 +10,13 @@ enum-known-found : tie.Need-enum-known-found
 enum-known-found c = search needs
 
 mul-result : tie.Need-mul-result
-mul-result c = search needs
+mul-result c = search rooms
 
 mul-result-2 : tie.Need-mul-result-2
-mul-result-2 c = search needs
+mul-result-2 c = search rooms
 
 add-result : tie.Need-add-result
-add-result c = search needs
+add-result c = search rooms
 
 enum-known-found-2 : tie.Need-enum-known-found-2
 enum-known-found-2 c = search needs
@@ -25,10 +25,10 @@ cast-n : tie.Need-cast-n
 cast-n c = search needs
 
 mul-result-3 : tie.Need-mul-result-3
-mul-result-3 c = search needs
+mul-result-3 c = search rooms
 
 add-result-2 : tie.Need-add-result-2
-add-result-2 c = search needs
+add-result-2 c = search rooms
 
 returns : tie.Need-returns
 returns c = search packs

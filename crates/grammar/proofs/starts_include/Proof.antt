@@ -1,5 +1,5 @@
 -- laws: includes
-use Rattle.grammar.proofs.Spelling.{includes}
+use Rattle.grammar.proofs.Includes.{includes}
 use borrow.Author.Needs.{needs}
 use Rattle.grammar.proofs.starts_include.Statement.{statement}
 use Rattle.grammar.proofs.starts_include.Tie as tie

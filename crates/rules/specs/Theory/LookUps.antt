@@ -1,5 +1,5 @@
 -- Look-up in any lent table: what a path names in a whole table is a whole value, so the part that is handed back lies inside the table
--- and is not empty, and no refusal has the number 0.
+-- and is not empty; no refusal has the number 0, and its place is not past the path text.
 use mathlib.Core.Path.{_≡_, refl, sym, _∙_, ap}
 use Prim.Native.Nat.{ℕ, zero, suc, _+_, _≤_, _<_}
 use mathlib.Core.List.{List, [], _∷_}
@@ -8,11 +8,12 @@ use mathlib.Core.Option.{Option, none, some}
 use native.Mathlib.Omega.{arith}
 use lib.Dec.{leb}
 use lib.ListN.{length}
+use borrow.Author.Tests.{leb-true}
 use Rattle.answers.specs.Ask.{mem}
 use Rattle.answers.specs.Theory.Sound.{clash, mem-more}
 use Rattle.rules.specs.Sizes.{maxNesting, maxRoom, maxPathText}
 use Rattle.rules.specs.Bytes.{Text, byteAt, same}
-use Rattle.rules.specs.Refusals.{Refusal, placed, nowhere, numberOf, Scan, ok, fail}
+use Rattle.rules.specs.Refusals.{Refusal, placed, nowhere, numberOf, placeOf, Scan, ok, fail}
 use Rattle.rules.specs.Utf8.{illFormed}
 use Rattle.rules.specs.Paths.{pathText}
 use Rattle.rules.specs.Sheet.{pairAt}
@@ -20,7 +21,9 @@ use Rattle.rules.specs.LookUp.{afterMembers, afterValue, isWhole, textAt
 use Rattle.rules.specs.Jobs.{Found, notFound, foundAt, lookedUp, lookUpJob}
 use Rattle.rules.specs.Theory.Choices.{by-test, by-option}
 use Rattle.rules.specs.Theory.Scanning.{Among}
+use Rattle.rules.specs.Theory.Layout.{both-true}
 use Rattle.rules.specs.Theory.PathNumbers.{pathNumbers, path-text-numbers}
+use Rattle.rules.specs.Theory.PathPlaces.{path-places, ill-formed-place}
 use Rattle.rules.specs.Theory.TableSteps.{some-one, text-inv, members-inv, RecordAt, plain-at, text-at, container-at}
 use Rattle.rules.specs.Theory.TableSteps.{membersEnd, value-inv, whole-inv}
 use Rattle.rules.specs.Theory.Tables.{levels-more, value-forward}
@@ -152,3 +155,47 @@ module _ (table text path : List ℕ) where
       go : Answered table answer → (mem (answer .number) lookUpNumbers ≡ true) × (answer .start ≡ 0) × (answer .size ≡ 0)
       go (part n p k l) = absurd (omega arith)
       go (refusal m s t) = (m, s, t)
+
+-- ---- places
+
+-- a place of the path text, or its length, which is not more than is allowed
+record PlaceIn (path : List ℕ) (f : Found) : Type 0 where
+  pub inPath : f .place ≤ length path
+  pub allowed : f .place ≤ maxPathText
+
+module _ (table text path : List ℕ) where
+  nowhere-in : (n : ℕ) → PlaceIn path (notFound (nowhere n))
+  unfolding notFound
+  nowhere-in n = record { inPath = omega arith; allowed = omega arith }
+
+  refused-in : (x : Refusal) → placeOf x ≤ length path → length path ≤ maxPathText → PlaceIn path (notFound x)
+  unfolding notFound
+  refused-in x h l = record { inPath = h; allowed = omega arith }
+
+  found-in : (o : Option ℕ) → PlaceIn path (foundAt table text o)
+  unfolding foundAt
+  found-in none = nowhere-in 16
+  found-in (some at) =
+      by-option (PlaceIn path) (afterValue maxNesting table (length text) at)
+      (λ e. nowhere-in 0) (λ end e. record { inPath = omega arith; allowed = omega arith })
+
+  path-in : (m : Scan (List Text)) → pathText path ≡ m → length path ≤ maxPathText → PlaceIn path (lookedUp table text m)
+  unfolding lookedUp
+  path-in (ok names end) e l = found-in (valueNamed table text names 0)
+  path-in (fail x) e l = refused-in x (path-places path x e) l
+
+  look-up-in : PlaceIn path (lookUpJob table text path)
+  unfolding lookUpJob
+  look-up-in =
+      by-test (PlaceIn path) (leb (length table) maxRoom && leb (length text) maxRoom && leb (length path) maxPathText)
+      (λ e. let (f, g) = both-true (leb (length table) maxRoom && leb (length text) maxRoom) (leb (length path) maxPathText) e in
+      let l = leb-true (length path) maxPathText g in
+      by-test (PlaceIn path) (isWhole table (length text))
+      (λ whole. by-option (PlaceIn path) (illFormed path) (λ f. path-in (pathText path) refl l)
+      (λ place f. refused-in (placed 2 place) (omega (arith, ill-formed-place path place f)) l))
+      (λ f. nowhere-in 15))
+      (λ e. nowhere-in 1)
+
+  -- an answer's place is in the path text or at its end, so never past the bytes that a path text may have
+  pub look-up-place : (lookUpJob table text path .place ≤ length path) × (lookUpJob table text path .place ≤ maxPathText)
+  look-up-place = (look-up-in .inPath, look-up-in .allowed)

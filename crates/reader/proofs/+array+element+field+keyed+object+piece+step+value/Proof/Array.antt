@@ -4,7 +4,8 @@ use Prim.Native.Nat.{ℕ}
 use Rattle.reader.proofs.+array+element+field+keyed+object+piece+step+value.Lts-array as array-lts
 use Rattle.reader.proofs.array.Reads as array
 use Rattle.reader.proofs.+array+element+field+keyed+object+piece+step+value.Proof.Common.{array-k, array-at}
-use Rattle.reader.proofs.Arrays.{arrays, Inv}
+use Rattle.reader.proofs.Containers.{Inv}
+use Rattle.reader.proofs.Arrays.{arrayLike, arrays}
 use Prim.Native.Nat.{_-_}
 use lib.ListN.{length}
 
@@ -12,7 +13,7 @@ use lib.ListN.{length}
 -- what is left to show, a declaration for each need
 
 abbrev pub array-Inv-loop : array-lts.InvT-loop
-array-Inv-loop s left items table₀ text₀ start at₀ n₀ table text at n = Inv s start left items table₀ text₀ (at .at .0) n table text
+array-Inv-loop s left items table₀ text₀ start at₀ n₀ table text at n = Inv arrayLike s start left items table₀ text₀ (at .at .0) n table text
 
 abbrev pub array-μ-loop : array-lts.MeasureT-loop
 array-μ-loop s left items table₀ text₀ start at₀ n₀ table text at n = length s - at .at .0

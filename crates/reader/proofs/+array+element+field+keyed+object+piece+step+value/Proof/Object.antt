@@ -4,7 +4,8 @@ use Prim.Native.Nat.{ℕ}
 use Rattle.reader.proofs.+array+element+field+keyed+object+piece+step+value.Lts-object as object-lts
 use Rattle.reader.proofs.object.Reads as object
 use Rattle.reader.proofs.+array+element+field+keyed+object+piece+step+value.Proof.Common.{object-k, object-at}
-use Rattle.reader.proofs.Objects.{objects, Inv}
+use Rattle.reader.proofs.Containers.{Inv}
+use Rattle.reader.proofs.Objects.{objectLike, objects}
 use Prim.Native.Nat.{_-_}
 use lib.ListN.{length}
 
@@ -13,7 +14,7 @@ use lib.ListN.{length}
 
 abbrev pub object-Inv-loop : object-lts.InvT-loop
 object-Inv-loop s closing left items table₀ text₀ start at₀ n₀ table text at n =
-    Inv closing s start left items table₀ text₀ (at .at .0) n table text
+    Inv (objectLike closing) s start left items table₀ text₀ (at .at .0) n table text
 
 abbrev pub object-μ-loop : object-lts.MeasureT-loop
 object-μ-loop s closing left items table₀ text₀ start at₀ n₀ table text at n = length s - at .at .0

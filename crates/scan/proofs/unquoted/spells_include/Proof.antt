@@ -1,8 +1,8 @@
 -- laws: spellings
-use Rattle.grammar.proofs.Spelling.{spellings}
+use Rattle.scan.proofs.Spelling.{spellings}
 use borrow.Author.Needs.{needs}
-use Rattle.grammar.proofs.four.Statement.{statement}
-use Rattle.grammar.proofs.four.Tie as tie
+use Rattle.scan.proofs.unquoted.spells_include.Statement.{statement}
+use Rattle.scan.proofs.unquoted.spells_include.Tie as tie
 
 -- what is left to show, a declaration for each need
 
@@ -42,14 +42,14 @@ enum-told-3 c = search needs
 returns-3 : tie.Need-returns-3
 returns-3 c = search spellings
 
-letter-requires-4 : tie.Need-letter-requires-4
-letter-requires-4 c κs = search spellings
+four-requires : tie.Need-four-requires
+four-requires c κs = search spellings
 
 returns-4 : tie.Need-returns-4
 returns-4 c = search spellings
 
-pub four-spec : {M : Type 1} → statement M
-four-spec =
+pub spells-include-spec : {M : Type 1} → statement M
+spells-include-spec =
     tie.close
     (tie.spec
     letter-requires
@@ -64,5 +64,5 @@ four-spec =
     enum-known-fourth
     enum-told-3
     returns-3
-    letter-requires-4
+    four-requires
     returns-4)
