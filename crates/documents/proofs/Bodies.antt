@@ -1,8 +1,8 @@
 -- An object or an array as the root.
 use mathlib.Core.Path.{_≡_, refl, sym, ap, _∙_}
-use mathlib.Core.Bool.{Bool, true, false}
+use mathlib.Core.Bool.{false}
 use mathlib.Core.List.{List}
-use Prim.Native.Nat.{ℕ, suc, _+_, _*_, _-_, _≤_, _<_}
+use Prim.Native.Nat.{ℕ, _+_, _*_, _-_, _≤_}
 use native.Mathlib.Omega.{arith}
 use mir.Syntax.{w64}
 use mir.Val.{Fits}
@@ -10,21 +10,19 @@ use lib.Dec.{eqb}
 use lib.ListN.{length}
 use borrow.Author.Tests.{eq-eqb}
 use Rattle.rules.specs.Bytes.{byteAt}
-use Rattle.rules.specs.Refusals.{Refusal, Read, got, rejected, readThen}
 use Rattle.rules.specs.Characters.{afterGap}
-use Rattle.rules.specs.Tree.{Root, fields, elements, rootNode, Fields, Elements}
-use Rattle.rules.specs.Reading.{theEnd, arrayAt, objectAt, rootAt}
-use Rattle.rules.specs.Theory.ValueSteps.{valueIn}
-use Rattle.chars.specs.declared.DocAt.{DocAt}
+use Rattle.rules.specs.Tree.{fields, elements, Fields, Elements}
+use Rattle.rules.specs.Reading.{theEnd, rootAt}
 use Rattle.chars.specs.declared.Cursor.{Cursor}
 use Rattle.scan.specs.Scan.{GapIs}
 use Rattle.scan.specs.declared.Gap.{Gap}
-use Rattle.items.specs.Holds.{Shown, FieldsAt, ElementsAt}
-use Rattle.items.specs.Moving.{Grown, move-fields, move-elements}
-use Rattle.items.specs.Parts.{numbers, letters, part, back, part-length, back-length, agree-back, grown-back}
+use Rattle.items.specs.Holds.{FieldsAt, ElementsAt}
+use Rattle.items.specs.Moving.{move-fields, move-elements}
+use Rattle.chars.specs.Parts.{part, back, part-length, back-length}
+use Rattle.items.specs.Parts.{numbers, letters, agree-back, grown-back}
 use Rattle.reader.specs.Readers.{Free, Asked, Array, Object, ArrayIs, ObjectIs}
 use Rattle.steps.specs.declared.Listed.{Listed}
-use Rattle.documents.specs.Roots.{RootAsked, Opens, OpensIs, Outline, Ends, OutlinedAsked, Rooted, OutlinedIs, ScratchAsked, BodyIs, fieldsFrom, elementsFrom, RootIs}
+use Rattle.documents.specs.Roots.{RootAsked, Opens, OpensIs, Outline, Ends, OutlinedAsked, OutlinedIs, ScratchAsked, BodyIs, fieldsFrom, elementsFrom, RootIs}
 use Rattle.documents.specs.declared.Opening.{Opening}
 
 module _ {s : List ℕ} {at : ℕ} {table text : List ℕ} (a : ScratchAsked s at table text) where

@@ -1,11 +1,10 @@
 -- What the root begins with.
-use mathlib.Core.Path.{_≡_, refl, sym, ap, _∙_}
+use mathlib.Core.Path.{_≡_, refl}
 use mathlib.Core.Bool.{Bool, true, false}
 use mathlib.Core.List.{List}
 use mathlib.Core.Option.{Option, none, some}
-use Prim.Native.Nat.{ℕ, _+_}
+use Prim.Native.Nat.{ℕ}
 use lib.Dec.{eqb}
-use Rattle.answers.specs.Theory.Sound.{clash}
 use Rattle.rules.specs.Bytes.{byteAt}
 use Rattle.rules.specs.Reading as rules
 use Rattle.chars.specs.declared.Cursor.{Cursor}

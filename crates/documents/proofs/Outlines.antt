@@ -1,8 +1,8 @@
 -- The root's item, in front of all others, and the gap behind the root.
 use mathlib.Core.Path.{_≡_, refl, sym, ap, _∙_}
-use mathlib.Core.Bool.{Bool, true, false}
+use mathlib.Core.Bool.{true, false}
 use mathlib.Core.List.{List}
-use Prim.Native.Nat.{ℕ, suc, _+_, _*_, _≤_, _<_}
+use Prim.Native.Nat.{ℕ, _+_, _*_, _≤_, _<_}
 use native.Mathlib.Omega.{arith}
 use mir.Syntax.{w64}
 use mir.Val.{Fits}
@@ -24,7 +24,7 @@ use Rattle.items.specs.Writing.{ItemAsked, ItemIs}
 use Rattle.items.specs.declared.Item.{Item}
 use Rattle.reader.specs.Readers.{Free}
 use Rattle.steps.specs.declared.Listed.{Listed}
-use Rattle.documents.specs.Roots.{Outline, Ends, OutlinedAsked, Rooted, OutlinedIs}
+use Rattle.documents.specs.Roots.{Outline, Ends, OutlinedAsked, OutlinedIs}
 
 -- ---- the rules' root
 

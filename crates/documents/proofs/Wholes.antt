@@ -1,21 +1,20 @@
 -- The numbers of a root that was read; documents; inputs.
 use mathlib.Core.Path.{_≡_, refl, sym, ap, _∙_}
-use mathlib.Core.Bool.{Bool, true, false, _&&_}
-use mathlib.Core.List.{List, map}
+use mathlib.Core.Bool.{Bool, true, false}
+use mathlib.Core.List.{List}
 use mathlib.Core.Option.{Option, none, some}
-use Prim.Native.Nat.{ℕ, suc, _+_, _*_, _≤_, _<_}
+use Prim.Native.Nat.{ℕ, _+_, _*_, _≤_, _<_}
 use native.Mathlib.Omega.{arith}
-use lib.Dec.{leb}
 use lib.ListN.{length, getElem?}
 use borrow.Author.Tests.{le-leb, lt-leb}
 use Rattle.answers.specs.Theory.Sound.{clash}
-use Rattle.rules.specs.Refusals.{Refusal, placed, nowhere, numberOf, Read, got, rejected}
+use Rattle.rules.specs.Refusals.{Refusal, placed, nowhere, numberOf, got, rejected}
 use Rattle.rules.specs.Utf8.{illFormed}
 use Rattle.rules.specs.Environment.{Entry, entriesOf, textOf}
 use Rattle.rules.specs.Tree.{Root, numbered, numberNode}
 use Rattle.rules.specs.Reading.{readRoot}
 use Rattle.rules.specs.Unresolved.{Unresolved, unresolvedIn}
-use Rattle.rules.specs.Documents.{Document, Setting, Input, given, denied, limited, ofRoot, readDocument, withEnvironment, inputs}
+use Rattle.rules.specs.Documents.{Document, given, denied, limited, ofRoot, readDocument, withEnvironment, inputs}
 use Rattle.rules.specs.Theory.FirstBytes.{first-byte-order}
 use Rattle.chars.specs.Cursor.{illAt, doc}
 use Rattle.chars.specs.declared.DocAt.{DocAt}
@@ -23,8 +22,8 @@ use Rattle.chars.specs.declared.Cursor.{Cursor}
 use Rattle.chars.specs.declared.Ill.{Ill}
 use Rattle.environment.specs.Entries.{isSome}
 use Rattle.environment.specs.Answers.{valid-is, invalid-is}
-use Rattle.items.specs.Parts.{numbers, letters}
-use Rattle.numbering.specs.Numbers.{Unnumbered, Counted, Numbered, NumberIs}
+use Rattle.items.specs.Parts.{letters}
+use Rattle.numbering.specs.Numbers.{Counted, Numbered, NumberIs}
 use Rattle.numbering.specs.Reading.{as-read}
 use Rattle.numbering.specs.declared.Count.{Count}
 use Rattle.steps.specs.declared.Listed.{Listed}

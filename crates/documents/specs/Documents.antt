@@ -1,6 +1,6 @@
 -- What reading a document, and the inputs of a job, promises.
 use mathlib.Core.Path.{_≡_}
-use Prim.Native.Nat.{ℕ, suc, _+_, _*_, _≤_}
+use Prim.Native.Nat.{ℕ, _+_, _*_, _≤_}
 use mathlib.Core.Bool.{Bool}
 use mathlib.Core.List.{List, map}
 use mathlib.Core.Option.{none, some}
@@ -11,7 +11,7 @@ use Rattle.rules.specs.Utf8.{illFormed}
 use Rattle.rules.specs.Tree.{Root, rootNode}
 use Rattle.rules.specs.Reading.{readRoot}
 use Rattle.rules.specs.Unresolved.{Unresolved}
-use Rattle.rules.specs.Documents.{Document, Setting, Input, given, denied, ofRoot, readDocument, inputs}
+use Rattle.rules.specs.Documents.{Document, Setting, Input, given, denied, readDocument, inputs}
 use Rattle.rules.specs.Theory.FirstBytes.{Rising}
 use Rattle.items.specs.Holds.{NodeAt}
 use Rattle.items.specs.Parts.{numbers, letters}

@@ -1,10 +1,10 @@
 -- A table and a text part hold one document at most.
-use mathlib.Core.Path.{_≡_, refl, sym, ap, _∙_}
+use mathlib.Core.Path.{_≡_, ap}
 use Prim.Native.Nat.{ℕ, _+_, _*_}
 use mathlib.Core.List.{List}
 use lib.ListN.{length}
 use Rattle.answers.specs.Theory.Sound.{clash}
-use Rattle.rules.specs.Tree.{Node, object, array, Root, fields, elements, rootNode, Fields, Elements}
+use Rattle.rules.specs.Tree.{Root, fields, elements, rootNode}
 use Rattle.rules.specs.Documents.{Document}
 use Rattle.items.specs.Parts.{numbers, letters}
 use Rattle.items.specs.Unique.{node-one}

@@ -1,20 +1,19 @@
 -- What reading the root promises.
 use mathlib.Core.Path.{_≡_}
-use Prim.Native.Nat.{ℕ, suc, _+_, _*_, _-_, _≤_, _<_}
-use mathlib.Core.Bool.{Bool, true, false}
+use Prim.Native.Nat.{ℕ, _+_, _*_, _-_, _≤_, _<_}
+use mathlib.Core.Bool.{false}
 use mathlib.Core.List.{List}
 use lib.Dec.{eqb}
 use lib.ListN.{length}
 use Rattle.rules.specs.Bytes.{byteAt}
-use Rattle.rules.specs.Refusals.{Refusal, numberOf, placeOf, Read, got, rejected, readThen}
+use Rattle.rules.specs.Refusals.{Read, got, readThen}
 use Rattle.rules.specs.Characters.{afterGap}
-use Rattle.rules.specs.Tree.{Node, Root, fields, elements, rootNode}
+use Rattle.rules.specs.Tree.{Root, fields, elements, rootNode}
 use Rattle.rules.specs.Reading.{arrayAt, objectAt, rootAt, readRoot}
 use Rattle.rules.specs.Theory.ValueSteps.{valueIn}
-use Rattle.chars.specs.declared.DocAt.{DocAt}
 use Rattle.items.specs.Holds.{NodeAt, Shown}
 use Rattle.items.specs.Parts.{numbers, letters}
-use Rattle.reader.specs.Readers.{Free, Reached}
+use Rattle.reader.specs.Readers.{Free}
 use Rattle.steps.specs.Decisions.{Refuses}
 use Rattle.steps.specs.declared.Listed.{Listed}
 use Rattle.documents.specs.declared.Opening.{Opening}

@@ -1,7 +1,7 @@
 -- What writing the items of a key's elements asks and promises.
 use mathlib.Core.Path.{_≡_}
 use Prim.Native.Nat.{ℕ, zero, suc, _+_, _*_, _-_, _≤_, _<_}
-use mathlib.Core.List.{List, [], _∷_}
+use mathlib.Core.List.{List}
 use lib.ListN.{length, getD}
 use Rattle.rules.specs.Tree.{Key}
 use Rattle.items.specs.Keys.{HeldKeys, keySizes}

@@ -11,11 +11,11 @@
 -- an array or an object only part its members, and those of a simple value are passed over.
 use mathlib.Core.Path.{_≡_}
 use Prim.Native.Nat.{ℕ, _+_, _*_, _≤_, _<_}
-use mathlib.Core.List.{List, [], _∷_}
+use mathlib.Core.List.{[], _∷_}
 use lib.ListN.{length}
 use Rattle.rules.specs.Bytes.{Text}
 use Rattle.rules.specs.Pieces.{scalarText}
-use Rattle.rules.specs.Tree.{Scalar, Substitution, Node, simple, array, object, unresolved, Elements, no-elements, element, Fields, no-fields, field, Pieces, no-pieces, literal, substituted}
+use Rattle.rules.specs.Tree.{Substitution, Node, simple, array, object, unresolved, Elements, no-elements, element, Fields, no-fields, field, Pieces, no-pieces, literal, substituted}
 use Rattle.items.specs.Codes.{codeOf, referenceCode, pathTexts, pathBytes}
 
 -- the bytes from an offset on

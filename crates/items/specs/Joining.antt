@@ -1,19 +1,19 @@
 -- Members behind members, pieces behind pieces, and what the pieces of one value come to.
-use mathlib.Core.Path.{_≡_, refl, sym, ap, _∙_}
+use mathlib.Core.Path.{_≡_, refl}
 use Prim.Native.Nat.{ℕ, _+_, _*_, _≤_, _<_}
 use mathlib.Core.Bool.{Bool, true, false}
-use mathlib.Core.List.{List, [], _∷_, _++_, append-assoc}
-use mathlib.Core.Option.{Option, none, some}
+use mathlib.Core.List.{[], _∷_, _++_}
+use mathlib.Core.Option.{none}
 use native.Mathlib.Omega.{arith}
 use lib.Dec.{ltb}
-use lib.ListN.{length, length-append}
+use lib.ListN.{length}
 use borrow.Author.Tests.{ltb-true, ltb-false}
 use Rattle.answers.specs.Theory.Sound.{clash}
 use Rattle.rules.specs.Bytes.{Text}
-use Rattle.rules.specs.Tree.{Node, simple, array, object, unresolved, Elements, no-elements, element, Fields, no-fields, field, Pieces, no-pieces, literal, substituted, joinElements, joinFields}
-use Rattle.rules.specs.Reading.{Kind, simpleKind, arrayKind, objectKind, kindOf, sameKind, hasSubstitution, unlike, elementsJoined, fieldsJoined}
+use Rattle.rules.specs.Tree.{simple, array, object, unresolved, Elements, no-elements, element, Fields, no-fields, field, Pieces, no-pieces, literal, substituted, joinElements, joinFields}
+use Rattle.rules.specs.Reading.{simpleKind, arrayKind, objectKind, kindOf, sameKind, hasSubstitution, unlike, elementsJoined, fieldsJoined}
 use Rattle.items.specs.Codes.{codeOf}
-use Rattle.items.specs.Holds.{Spells, TextAt, Seams, Sized, Shown, ElementsAt, FieldsAt, PiecesAt}
+use Rattle.items.specs.Holds.{Spells, Seams, ElementsAt, FieldsAt, PiecesAt}
 
 -- ---- texts
 

@@ -1,12 +1,12 @@
 -- A tree stands in any table and text part that have the same numbers and bytes, the items so many further on.
-use mathlib.Core.Path.{_≡_, refl, sym, ap, _∙_}
+use mathlib.Core.Path.{_≡_, sym, ap, _∙_}
 use Prim.Native.Nat.{ℕ, _+_, _*_, _-_, _≤_, _<_}
-use mathlib.Core.List.{List, [], _∷_, _++_}
+use mathlib.Core.List.{[], _∷_}
 use native.Mathlib.Omega.{arith}
 use lib.ListN.{length}
 use Rattle.rules.specs.Bytes.{Text}
-use Rattle.rules.specs.Tree.{Scalar, Substitution, Node, simple, array, object, unresolved, Elements, no-elements, element, Fields, no-fields, field, Pieces, no-pieces, literal, substituted}
-use Rattle.items.specs.Holds.{Spells, TextAt, Seams, Sized, ReferenceAt, Shown, ElementsAt, FieldsAt, PiecesAt}
+use Rattle.rules.specs.Tree.{Substitution, Node, simple, array, object, unresolved, Elements, no-elements, element, Fields, no-fields, field, Pieces, no-pieces, literal, substituted}
+use Rattle.items.specs.Holds.{Spells, TextAt, Seams, ReferenceAt, Shown, ElementsAt, FieldsAt, PiecesAt}
 
 -- ---- texts
 

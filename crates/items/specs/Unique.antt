@@ -1,18 +1,17 @@
 -- A table and a text part hold one tree at most: so what the reader promises leaves no choice.
 use mathlib.Core.Path.{_≡_, refl, sym, ap, _∙_}
-use Prim.Native.Nat.{ℕ, zero, suc, _+_, _*_, _-_, _/_, _%_, _≤_, _<_}
+use Prim.Native.Nat.{ℕ, _+_, _*_, _-_, _/_, _%_, _≤_, _<_}
 use mathlib.Core.Bool.{Bool, true, false}
 use mathlib.Core.List.{List, [], _∷_, _++_}
 use native.Mathlib.Omega.{arith}
 use lib.Dec.{ltb, eqb}
-use lib.ListN.{length, length-append}
+use lib.ListN.{length}
 use borrow.Author.Tests.{ltb-true, ltb-false}
-use Rattle.answers.specs.Theory.Sound.{clash}
 use Rattle.rules.specs.Bytes.{Text}
 use Rattle.rules.specs.Pieces.{scalarText}
 use Rattle.rules.specs.Tree.{Scalar, null, boolean, number, string, Key, Substitution, Node, simple, array, object, unresolved, Elements, no-elements, element, Fields, no-fields, field, Pieces, no-pieces, literal, substituted}
 use Rattle.items.specs.Codes.{codeOf, referenceCode, pathTexts, pathEnds, pathBytes}
-use Rattle.items.specs.Holds.{Spells, TextAt, Seams, Sized, ReferenceAt, Shown, ElementsAt, FieldsAt, PiecesAt}
+use Rattle.items.specs.Holds.{Spells, TextAt, Seams, ReferenceAt, Shown, ElementsAt, FieldsAt, PiecesAt}
 
 -- ---- texts
 

@@ -1,49 +1,30 @@
 -- One law for each answer of the functions that join one piece more to a path.
 use mathlib.Core.Path.{_≡_, refl, sym, _∙_, ap}
 use mathlib.Core.Bool.{Bool, true, false}
-use mathlib.Core.List.{List, [], _∷_, _++_, append-assoc}
-use Prim.Native.Nat.{ℕ, _+_, _-_, _≤_, _<_, min}
+use mathlib.Core.List.{List, _++_, append-assoc}
+use Prim.Native.Nat.{ℕ, _+_, _-_, _≤_, _<_}
 use native.Mathlib.Omega.{arith}
-use lib.ListN.{length, take, drop, length-append, length-drop, length-take}
+use lib.ListN.{length, take, drop}
 use lib.Seq.{slice, length-slice, take-append-add, take-append-seam, length-take-le}
-use borrow.Rule.Slice.PartMut.{putMid, put-same}
+use borrow.Rule.Slice.PartMut.{put-same}
 use Rattle.answers.specs.Theory.Sound.{clash}
-use Rattle.rules.specs.Bytes.{Text}
 use Rattle.rules.specs.Refusals.{Refusal, numberOf, placeOf, Scan, ok, fail}
 use Rattle.rules.specs.Tree.{Scalar, null, boolean, number, string}
-use Rattle.rules.specs.Pieces.{Token, token, simpleAt, scalarText}
-use Rattle.rules.specs.Paths.{Segment, segment, segmentOf, Element}
+use Rattle.rules.specs.Pieces.{Token, simpleAt, scalarText}
+use Rattle.rules.specs.Paths.{segmentOf}
 use Rattle.chars.specs.Cursor.{doc, cur}
+use Rattle.chars.specs.Parts.{part, back, part-length, back-length}
 use Rattle.chars.specs.declared.DocAt.{DocAt}
 use Rattle.chars.specs.declared.TextAt.{TextAt}
 use Rattle.chars.specs.declared.Cursor.{Cursor}
 use Rattle.paths.specs.Model.{state, quotedC, SplitAsked, SplitIs}
-use Rattle.paths.specs.Holding.{Holds}
-use Rattle.paths.specs.Pieces.{splitTo, segmentTo}
-use Rattle.paths.specs.Tokens.{ofScalar, ofToken, pieceOf, Moved, Spelt, LaidToken, LaidPiece, PieceAsked, PieceIs}
-use Rattle.paths.specs.Joining.{Grown, Follows, Writes, WrittenIs, SegmentAsked, Turns, SegmentIs}
+use Rattle.paths.specs.Pieces.{segmentTo}
+use Rattle.paths.specs.Tokens.{ofScalar, ofToken, pieceOf, Moved, LaidToken, PieceAsked, PieceIs}
+use Rattle.paths.specs.Joining.{Writes, WrittenIs, SegmentAsked, Turns, SegmentIs}
 use Rattle.paths.specs.declared.Path.{Path}
 use Rattle.paths.specs.declared.Turn.{Turn}
 use Rattle.paths.specs.declared.pieces.Piece.{Piece}
 use Rattle.paths.proofs.Held.{holds-quoted, holds-split}
-
--- ---- the part `&mut x[u..]` that is lent, and x after the part has come back as y
-
-abbrev pub part : ℕ → List ℕ → List ℕ
-part u x = take (length x - u) (drop u x)
-
-abbrev pub back : ℕ → List ℕ → List ℕ → List ℕ
-back u x y = putMid u (length x - u) x y
-
-part-length : (u : ℕ) (x : List ℕ) → length (part u x) ≡ length x - u
-part-length u x = length-take (length x - u) (drop u x) ∙ rw (length-drop u x) (let m : _≡_ {A = ℕ} (min (length x - u) (length x - u)) (length x - u) = omega arith in m)
-
-back-length : (u : ℕ) (x y : List ℕ) → u ≤ length x → length y ≡ length (part u x) → length (back u x y) ≡ length x
-back-length u x y h e =
-    let a = length-append (take u x) (y ++ drop (length x - u) (drop u x)) in
-    let b = length-append y (drop (length x - u) (drop u x)) in
-    let c = length-drop (length x - u) (drop u x) in
-    omega (arith, a, b, c, length-drop u x, length-take-le u x h, part-length u x)
 
 -- text at the start of a part is text behind what stands before it
 back-take : (u : ℕ) (x y t r : List ℕ) → u ≤ length x → y ≡ t ++ r → take (u + length t) (back u x y) ≡ take u x ++ t

@@ -12,7 +12,8 @@ use Rattle.scan.specs.Scan.{GapIs}
 use Rattle.scan.specs.declared.Gap.{Gap}
 use Rattle.grammar.specs.Decisions.{Turns, TurnIs}
 use Rattle.grammar.specs.declared.Turn.{Turn}
-use Rattle.items.specs.Parts.{numbers, letters, part, back, back-length}
+use Rattle.chars.specs.Parts.{part, back, back-length}
+use Rattle.items.specs.Parts.{numbers, letters}
 use Rattle.steps.specs.Decisions.{Refuses}
 use Rattle.steps.specs.declared.Listed.{Listed}
 use Rattle.reader.specs.Readers.{Asked, Reached, partedAfter}

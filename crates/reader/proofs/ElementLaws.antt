@@ -1,24 +1,20 @@
 -- One law for each answer of the reader of an element.
-use mathlib.Core.Path.{_≡_, refl, sym, ap, _∙_}
-use Prim.Native.Nat.{ℕ, suc, _+_, _*_, _-_, _≤_, _<_}
+use mathlib.Core.Path.{_≡_, refl, ap, _∙_}
+use Prim.Native.Nat.{ℕ, suc, _+_, _-_, _≤_, _<_}
 use mathlib.Core.List.{List}
 use native.Mathlib.Omega.{arith}
 use lib.ListN.{length}
-use Rattle.rules.specs.Refusals.{Refusal, Read, got, rejected}
-use Rattle.rules.specs.Tree.{Node}
 use Rattle.rules.specs.Reading.{elementAt}
 use Rattle.rules.specs.Theory.ValueSteps.{valueIn}
 use Rattle.chars.specs.Cursor.{doc}
-use Rattle.chars.specs.declared.DocAt.{DocAt}
 use Rattle.chars.specs.declared.TextAt as chars
 use Rattle.chars.specs.declared.Cursor.{Cursor}
-use Rattle.items.specs.Parts.{numbers, letters, part, back, part-length, back-length}
-use Rattle.items.specs.Writing.{ItemAsked, ItemIs}
-use Rattle.items.specs.declared.Item.{Item}
+use Rattle.chars.specs.Parts.{part, back, part-length, back-length}
+use Rattle.items.specs.Writing.{ItemIs}
 use Rattle.steps.specs.Decisions.{nestingOf, Behind, BehindIs, FullIs, elementItem, Listable, ListedAsked, Lists, ListedIs}
 use Rattle.steps.specs.declared.Listed.{Listed}
 use Rattle.steps.specs.declared.Valued.{Valued}
-use Rattle.reader.specs.Readers.{Asked, Reached, Value, ValueIs, AnElement, ElementIs}
+use Rattle.reader.specs.Readers.{Asked, Value, ValueIs, AnElement, ElementIs}
 use Rattle.reader.specs.Measures.{need}
 use Rattle.reader.proofs.Parting.{parted-got, parted-fail, parted-rejected, element-by, element-held}
 

@@ -1,11 +1,10 @@
 -- One law for each answer of the reader of a field.
-use mathlib.Core.Path.{_≡_, refl, sym, ap, _∙_}
-use Prim.Native.Nat.{ℕ, suc, _+_, _*_, _-_, _≤_, _<_}
-use mathlib.Core.List.{List, _∷_}
+use mathlib.Core.Path.{_≡_, refl, ap, _∙_}
+use Prim.Native.Nat.{ℕ, _+_, _-_, _≤_, _<_}
+use mathlib.Core.List.{List}
 use native.Mathlib.Omega.{arith}
 use lib.ListN.{length}
-use Rattle.rules.specs.Refusals.{Refusal, Read, got, rejected, readThen}
-use Rattle.rules.specs.Tree.{Key, Node}
+use Rattle.rules.specs.Refusals.{Read}
 use Rattle.rules.specs.Reading.{FieldRead, inside, fieldAt}
 use Rattle.rules.specs.Theory.ValueSteps.{valueIn}
 use Rattle.chars.specs.declared.DocAt.{DocAt}

@@ -1,25 +1,23 @@
 -- One law for each answer of the reader of a field whose key was read.
-use mathlib.Core.Path.{_≡_, refl, sym, ap, _∙_}
+use mathlib.Core.Path.{_≡_, refl, ap, _∙_}
 use Prim.Native.Nat.{ℕ, suc, _+_, _*_, _-_, _≤_, _<_}
 use mathlib.Core.List.{List, _∷_}
 use native.Mathlib.Omega.{arith}
 use mir.Syntax.{w64}
 use mir.Val.{Fits}
 use lib.ListN.{length}
-use Rattle.rules.specs.Refusals.{Refusal, Read, got, rejected, readThen}
-use Rattle.rules.specs.Tree.{Key, Node}
-use Rattle.rules.specs.Reading.{FieldRead, inside}
-use Rattle.rules.specs.Theory.ValueSteps.{valueIn}
-use Rattle.chars.specs.declared.DocAt.{DocAt}
+use Rattle.rules.specs.Refusals.{got, rejected}
+use Rattle.rules.specs.Tree.{Key}
+use Rattle.rules.specs.Reading.{inside}
 use Rattle.chars.specs.declared.TextAt as chars
 use Rattle.chars.specs.declared.Cursor.{Cursor}
-use Rattle.items.specs.Parts.{numbers, letters, part, back, part-length, back-length}
+use Rattle.chars.specs.Parts.{part, back, part-length, back-length}
 use Rattle.items.specs.Keys.{HeldKeys, keySizes}
-use Rattle.fields.specs.Keys.{PutAsked, PutIs}
+use Rattle.fields.specs.Keys.{PutIs}
 use Rattle.steps.specs.Decisions.{nestingOf, Behind, BehindIs, Nameable, NamedAsked, Named, NamedIs}
 use Rattle.steps.specs.declared.Listed.{Listed}
 use Rattle.steps.specs.declared.Valued.{Valued}
-use Rattle.reader.specs.Readers.{Asked, Reached, Value, ValueIs, KeyedAsked, valued, Keyed, KeyedIs}
+use Rattle.reader.specs.Readers.{Asked, Value, ValueIs, KeyedAsked, valued, Keyed, KeyedIs}
 use Rattle.reader.specs.Measures.{need}
 use Rattle.reader.proofs.Parting.{parted-got, parted-fail, parted-rejected, field-held}
 

@@ -1,20 +1,21 @@
 -- The loop over the members of a container, elements and fields alike: its invariant, and one law for each way out of a turn.
 use mathlib.Core.Path.{_≡_, refl, sym, ap, _∙_}
-use Prim.Native.Nat.{ℕ, zero, suc, _+_, _*_, _-_, _≤_, _<_}
-use mathlib.Core.Bool.{Bool, true, false}
+use Prim.Native.Nat.{ℕ, suc, _+_, _*_, _-_, _≤_, _<_}
+use mathlib.Core.Bool.{false}
 use mathlib.Core.List.{List, [], _∷_, _++_}
 use native.Mathlib.Omega.{arith}
 use lib.Dec.{eqb}
 use lib.ListN.{length}
-use Rattle.rules.specs.Refusals.{Refusal, Read, got, rejected}
+use Rattle.rules.specs.Refusals.{Read, got}
 use Rattle.rules.specs.Characters.{afterGap}
-use Rattle.rules.specs.Tree.{Node, Elements, no-elements, element, Fields, no-fields, field}
+use Rattle.rules.specs.Tree.{Node, no-elements, element, no-fields, field}
 use Rattle.rules.specs.Bytes.{byteAt}
 use Rattle.rules.specs.Reading.{theEnd, FieldRead, fieldsOf, elementsFrom}
 use Rattle.items.specs.Holds.{ElementsAt, FieldsAt}
 use Rattle.items.specs.Moving.{Grown, Agree, move-elements, move-fields}
 use Rattle.items.specs.Joining.{no-seam, elements-join, fields-join}
-use Rattle.items.specs.Parts.{numbers, letters, part, back, part-length, back-length, agree-back, agree-kept, grown-back, grown-kept}
+use Rattle.chars.specs.Parts.{part, back, part-length, back-length}
+use Rattle.items.specs.Parts.{numbers, letters, agree-back, agree-kept, grown-back, grown-kept}
 use Rattle.reader.specs.Readers.{Free, Asked, Reached, partedAfter}
 use Rattle.reader.proofs.Members as M
 

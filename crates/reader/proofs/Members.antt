@@ -1,7 +1,7 @@
 -- The members of a container one after another: what is still to be read behind those that were.
 use mathlib.Core.Path.{_≡_, refl, sym, ap, _∙_}
 use Prim.Native.Nat.{ℕ, suc, _+_, _-_, _≤_, _<_}
-use mathlib.Core.Bool.{Bool, true, false}
+use mathlib.Core.Bool.{true, false}
 use mathlib.Core.List.{List, [], _∷_, _++_, append-assoc, append-nil}
 use native.Mathlib.Omega.{arith}
 use lib.Dec.{eqb}
@@ -9,7 +9,7 @@ use lib.ListN.{length}
 use Rattle.rules.specs.Bytes.{byteAt}
 use Rattle.rules.specs.Refusals.{Refusal, ended, Scan, ok, fail, Read, got, rejected, readThen, counting}
 use Rattle.rules.specs.Characters.{afterGap}
-use Rattle.rules.specs.Tree.{Node, Elements, no-elements, element, Fields, no-fields, field, joinElements, joinFields}
+use Rattle.rules.specs.Tree.{Node, no-elements, element, no-fields, field, joinElements, joinFields}
 use Rattle.rules.specs.Reading.{theEnd, afterClosing, parted, membersFrom, membersAt, FieldRead, fieldsOf, elementsFrom}
 use Rattle.rules.specs.Theory.ValueSteps.{members-left}
 use Rattle.reader.specs.Readers.{partedAfter}

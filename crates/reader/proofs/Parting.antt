@@ -1,26 +1,27 @@
 -- An element, or a field, in front of what stands inside it; and what parts it from the next.
 use mathlib.Core.Path.{_≡_, refl, sym, ap, _∙_}
-use Prim.Native.Nat.{ℕ, zero, suc, _+_, _*_, _-_, _≤_, _<_}
-use mathlib.Core.Bool.{Bool, true, false}
-use mathlib.Core.List.{List, [], _∷_, _++_}
+use Prim.Native.Nat.{ℕ, suc, _+_, _*_, _-_, _≤_, _<_}
+use mathlib.Core.Bool.{true, false}
+use mathlib.Core.List.{List, _∷_}
 use mathlib.Core.Option.{Option, none, some}
 use native.Mathlib.Omega.{arith}
 use lib.Dec.{ltb}
 use lib.ListN.{length, getD}
 use borrow.Author.Tests.{lt-ltb}
-use Rattle.rules.specs.Refusals.{Refusal, placed, notAllowed, Scan, ok, fail, Read, got, rejected, readThen}
-use Rattle.rules.specs.Tree.{Key, Node, Elements, no-elements, element, Fields, no-fields, field}
+use Rattle.rules.specs.Refusals.{Refusal, placed, notAllowed, ok, fail, Read, got, rejected}
+use Rattle.rules.specs.Tree.{Key, Node, no-elements, element, no-fields, field}
 use Rattle.rules.specs.Reading.{Start, startOf, counted, parted, elementAt, inside}
 use Rattle.rules.specs.Theory.ValueSteps.{valueIn, value-nothing}
 use Rattle.items.specs.Holds.{Shown, ElementsAt, FieldsAt}
 use Rattle.items.specs.Moving.{Grown, move-shown}
-use Rattle.items.specs.Parts.{numbers, letters, part, back, back-below, back-above, agree-back, grown-back}
+use Rattle.chars.specs.Parts.{back, back-below, back-above}
+use Rattle.items.specs.Parts.{numbers, letters, agree-back, grown-back}
 use Rattle.items.specs.Keys.{HeldKeys, keySizes}
 use Rattle.items.specs.Writing.{ItemIs}
 use Rattle.items.specs.declared.Item.{Item}
 use Rattle.fields.specs.Keys.{PutIs}
 use Rattle.fields.specs.Chains.{put-holds}
-use Rattle.reader.specs.Readers.{Free, Reached, partedAfter}
+use Rattle.reader.specs.Readers.{Free, partedAfter}
 
 -- ---- what parts a member from the next
 

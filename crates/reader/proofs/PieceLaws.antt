@@ -1,26 +1,24 @@
 -- One law for each answer of the reader of a piece.
-use mathlib.Core.Path.{_≡_, refl, sym, ap, _∙_}
-use Prim.Native.Nat.{ℕ, suc, _+_, _*_, _-_, _≤_, _<_}
+use mathlib.Core.Path.{_≡_, refl, sym}
+use Prim.Native.Nat.{ℕ, _+_, _*_, _-_, _≤_, _<_}
 use mathlib.Core.Bool.{true}
 use mathlib.Core.List.{List}
-use mathlib.Core.Option.{none, some}
 use native.Mathlib.Omega.{arith}
 use mir.Syntax.{w64}
 use mir.Val.{Fits}
 use lib.ListN.{length}
-use Rattle.rules.specs.Refusals.{Refusal, placed, Read, got, rejected}
-use Rattle.rules.specs.Reading.{Start, brace, bracket, dollar, scalar, startOf}
+use Rattle.rules.specs.Refusals.{placed}
+use Rattle.rules.specs.Reading.{brace, bracket, dollar, scalar}
 use Rattle.rules.specs.Theory.ValueSteps.{valueIn}
 use Rattle.chars.specs.declared.DocAt.{DocAt}
 use Rattle.chars.specs.declared.Cursor.{Cursor}
-use Rattle.items.specs.Parts.{part, back, part-length, back-length}
+use Rattle.chars.specs.Parts.{part, back, part-length, back-length}
 use Rattle.grammar.specs.Decisions.{closes}
-use Rattle.steps.specs.Decisions.{nestingOf, Begins, BegunIs, PlainAsked, Plain, PlainIs, LinkedAsked, Linked, LinkedIs, Nested, NestedIs}
+use Rattle.steps.specs.Decisions.{Begins, BegunIs, PlainAsked, Plain, PlainIs, LinkedAsked, Linked, LinkedIs, Nested, NestedIs}
 use Rattle.steps.specs.declared.Beginning.{Beginning}
 use Rattle.steps.specs.declared.Listed.{Listed}
-use Rattle.steps.specs.declared.Found.{Found}
 use Rattle.steps.specs.declared.Piece.{Piece}
-use Rattle.reader.specs.Readers.{Asked, Reached, Array, Object, ArrayIs, ObjectIs, PieceAsked, FoundIs, Pieced, PieceIs}
+use Rattle.reader.specs.Readers.{Asked, Array, Object, ArrayIs, ObjectIs, PieceAsked, Pieced, PieceIs}
 use Rattle.reader.specs.Measures.{need}
 use Rattle.reader.proofs.Piecing.{scalar-refused, scalar-found, dollar-refused, dollar-found, brace-refused, brace-found, bracket-refused, bracket-found}
 

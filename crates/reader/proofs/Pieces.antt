@@ -2,8 +2,8 @@
 use mathlib.Core.Path.{_≡_, refl, sym, ap, _∙_}
 use Prim.Native.Nat.{ℕ, suc, _+_, _-_, _≤_, _<_}
 use mathlib.Core.Bool.{Bool, true, false}
-use mathlib.Core.List.{List, [], _∷_, _++_}
-use mathlib.Core.Option.{Option, none, some}
+use mathlib.Core.List.{List}
+use mathlib.Core.Option.{none, some}
 use native.Mathlib.Omega.{arith}
 use lib.Dec.{ltb}
 use lib.ListN.{length}
@@ -12,7 +12,7 @@ use Rattle.rules.specs.Bytes.{Text}
 use Rattle.rules.specs.Sizes.{maxItems}
 use Rattle.rules.specs.Refusals.{Refusal, placed, Read, got, rejected, readThen}
 use Rattle.rules.specs.Characters.{afterInline}
-use Rattle.rules.specs.Tree.{Node, Pieces, no-pieces, literal, substituted}
+use Rattle.rules.specs.Tree.{Pieces, no-pieces}
 use Rattle.rules.specs.Reading.{Start, startOf, Part, node, substitution, withPart, counted, piecesFrom}
 use Rattle.rules.specs.Theory.ValueSteps.{pieces-left}
 use Rattle.items.specs.Joining.{joinPieces}

@@ -1,11 +1,11 @@
 -- A piece of each kind, as the rules read it and as it stands in the table and the text part.
 use mathlib.Core.Path.{_≡_, refl, sym, ap, _∙_}
-use Prim.Native.Nat.{ℕ, zero, suc, _+_, _*_, _-_, _≤_, _<_}
+use Prim.Native.Nat.{ℕ, _+_, _*_, _-_, _≤_, _<_}
 use mathlib.Core.Bool.{Bool, true, false}
-use mathlib.Core.List.{List, [], _∷_, _++_}
+use mathlib.Core.List.{List, [], _∷_}
 use mathlib.Core.Option.{Option, none, some}
 use native.Mathlib.Omega.{arith}
-use lib.Dec.{ltb, eqb}
+use lib.Dec.{eqb}
 use lib.ListN.{length, getD, take, length-append, length-map}
 use borrow.Author.Tests.{lt-ltb}
 use Rattle.rules.specs.Pieces.{Token, simpleAt, scalarText}
@@ -19,9 +19,10 @@ use Rattle.rules.specs.Reading.{Start, brace, bracket, dollar, scalar, startOf,
 use Rattle.rules.specs.Theory.PathsEnd.{Verdict, passes, Fitting, judge-verdict}
 use Rattle.rules.specs.Theory.ValueSteps.{valueIn}
 use Rattle.items.specs.Codes.{codeOf, referenceCode, pathTexts, pathEnds, pathBytes}
-use Rattle.items.specs.Holds.{TextAt, ReferenceAt, Shown, ElementsAt, FieldsAt}
+use Rattle.items.specs.Holds.{ElementsAt, FieldsAt}
 use Rattle.items.specs.Moving.{Grown, Agree, move-elements, move-fields}
-use Rattle.items.specs.Parts.{numbers, letters, back, grown-back, spells-take}
+use Rattle.chars.specs.Parts.{back}
+use Rattle.items.specs.Parts.{numbers, letters, grown-back, spells-take}
 use Rattle.values.specs.Runs.{KindIs}
 use Rattle.reader.specs.Readers.{Free, Reached, PieceAsked, PartAt, FoundIs}
 use Rattle.steps.specs.Decisions.{nestingOf}

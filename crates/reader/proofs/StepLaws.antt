@@ -1,19 +1,17 @@
 -- One law for each answer of the reader of one piece more.
-use mathlib.Core.Path.{_≡_, refl, sym, ap, _∙_}
-use Prim.Native.Nat.{ℕ, suc, _+_, _*_, _-_, _≤_, _<_}
+use mathlib.Core.Path.{_≡_, refl, ap, _∙_}
+use Prim.Native.Nat.{ℕ, _+_, _-_, _≤_, _<_}
 use mathlib.Core.List.{List}
 use native.Mathlib.Omega.{arith}
 use lib.ListN.{length}
-use Rattle.chars.specs.declared.DocAt.{DocAt}
 use Rattle.chars.specs.declared.TextAt as chars
-use Rattle.chars.specs.declared.Cursor.{Cursor}
-use Rattle.items.specs.Parts.{part, back, part-length, back-length}
+use Rattle.chars.specs.Parts.{part, back, part-length, back-length}
 use Rattle.values.specs.declared.Run.{Run}
 use Rattle.steps.specs.Decisions.{PutPieceIs, More, MoreIs, Placeable, PlacedAsked, Placed, PlacedIs}
 use Rattle.steps.specs.declared.Found.{Found}
 use Rattle.steps.specs.declared.Piece.{Piece}
 use Rattle.steps.specs.declared.Step.{Step}
-use Rattle.reader.specs.Readers.{PieceAsked, FoundIs, Pieced, PieceIs, StepAsked, MoreRead, Stepped, StepIs}
+use Rattle.reader.specs.Readers.{PieceAsked, FoundIs, Pieced, PieceIs, StepAsked, Stepped, StepIs}
 use Rattle.reader.specs.Measures.{need}
 use Rattle.reader.proofs.Stepping.{more-read}
 

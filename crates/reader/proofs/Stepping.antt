@@ -1,30 +1,23 @@
 -- One piece more: its item in front of what stands inside it, the whitespace in front of its text.
 use mathlib.Core.Path.{_≡_, refl, sym, ap, _∙_}
-use Prim.Native.Nat.{ℕ, zero, suc, _+_, _*_, _-_, _≤_, _<_}
+use Prim.Native.Nat.{ℕ, _+_, _*_, _-_, _≤_, _<_}
 use mathlib.Core.Bool.{Bool, true, false}
-use mathlib.Core.List.{List, [], _∷_, _++_}
-use mathlib.Core.Option.{Option, none, some}
+use mathlib.Core.List.{List}
 use native.Mathlib.Omega.{arith}
-use lib.Dec.{eqb}
-use lib.ListN.{length, getD, take, drop, length-append}
+use lib.ListN.{length, getD, take, drop}
 use lib.Seq.{slice, length-slice, take-at, getD-append-add, getD-drop}
 use Rattle.rules.specs.Bytes.{Text}
-use Rattle.rules.specs.Pieces.{scalarText}
-use Rattle.rules.specs.Refusals.{Refusal, Read, got, rejected}
-use Rattle.rules.specs.Tree.{Scalar, null, boolean, number, string, Substitution, Node, simple, array, object, unresolved, Pieces, no-pieces}
-use Rattle.rules.specs.Reading.{Start, startOf, Part, node, substitution, withPart, counted, pieceAt}
-use Rattle.rules.specs.Theory.ValueSteps.{valueIn}
-use Rattle.chars.specs.declared.Cursor.{Cursor}
+use Rattle.rules.specs.Tree.{Scalar, null, boolean, number, string, Node, simple, array, object, unresolved, no-pieces}
+use Rattle.rules.specs.Reading.{Part, node, substitution, withPart}
 use Rattle.items.specs.Codes.{codeOf, referenceCode}
-use Rattle.items.specs.Holds.{Spells, TextAt, ReferenceAt, Shown, PiecesAt}
+use Rattle.items.specs.Holds.{Spells, TextAt, Shown, PiecesAt}
 use Rattle.items.specs.Moving.{Grown, move-text, move-shown}
-use Rattle.items.specs.Parts.{numbers, letters, part, back, part-length, back-length, back-below, back-above, spells-take}
-use Rattle.items.specs.Writing.{ItemIs}
+use Rattle.chars.specs.Parts.{part, back, back-above}
+use Rattle.items.specs.Parts.{numbers, letters, spells-take}
 use Rattle.values.specs.Runs.{KindIs, AddIs}
 use Rattle.values.specs.declared.Run.{Run}
-use Rattle.reader.specs.Readers.{Free, Reached, StepAsked, Follows, MoreRead, PartAt, FoundIs}
-use Rattle.steps.specs.Decisions.{nestingOf}
-use Rattle.steps.specs.Decisions.{pieceItem, PutPieceIs}
+use Rattle.reader.specs.Readers.{Free, StepAsked, Follows, MoreRead, PartAt, FoundIs}
+use Rattle.steps.specs.Decisions.{PutPieceIs}
 use Rattle.steps.specs.declared.Found.{Found}
 
 code-small : (x : Scalar) → codeOf x ≤ 5

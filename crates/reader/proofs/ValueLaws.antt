@@ -1,7 +1,7 @@
 -- One law for each answer of the reader of a value.
 use mathlib.Core.Path.{_≡_, refl, sym, ap, _∙_}
-use mathlib.Core.Logic.{_⊎_, inl, inr}
-use Prim.Native.Nat.{ℕ, suc, _+_, _*_, _-_, _≤_, _<_}
+use mathlib.Core.Logic.{inl, inr}
+use Prim.Native.Nat.{ℕ, _+_, _*_, _-_, _≤_, _<_}
 use mathlib.Core.Bool.{Bool, true, false}
 use mathlib.Core.List.{List}
 use mathlib.Core.Option.{none, some}
@@ -9,9 +9,9 @@ use native.Mathlib.Omega.{arith}
 use lib.Dec.{eqb}
 use borrow.Author.Tests.{eqb-true, eqb-false}
 use lib.ListN.{length}
-use Rattle.rules.specs.Refusals.{Refusal, placed, notAllowed, Read, got, rejected, readThen}
+use Rattle.rules.specs.Refusals.{placed, notAllowed, Read, readThen}
 use Rattle.rules.specs.Characters.{afterInline}
-use Rattle.rules.specs.Tree.{Node, Pieces}
+use Rattle.rules.specs.Tree.{Pieces}
 use Rattle.rules.specs.Reading.{Start, startOf, pieceAt, textJoined, judgeValue}
 use Rattle.rules.specs.Theory.ValueSteps.{valueIn, value-pieces}
 use Rattle.chars.specs.declared.DocAt.{DocAt}
@@ -19,12 +19,13 @@ use Rattle.chars.specs.declared.TextAt as chars
 use Rattle.chars.specs.declared.Cursor.{Cursor}
 use Rattle.scan.specs.Scan.{EndIs}
 use Rattle.items.specs.Moving.{move-spells, move-pieces}
-use Rattle.items.specs.Parts.{numbers, letters, part, back, part-length, back-length, back-below, agree-kept, grown-kept}
+use Rattle.chars.specs.Parts.{part, back, part-length, back-length, back-below}
+use Rattle.items.specs.Parts.{numbers, agree-kept, grown-kept}
 use Rattle.values.specs.declared.Run.{Run}
 use Rattle.steps.specs.Decisions.{nestingOf, Refuses, FinishAsked, Finished, FinishIs}
 use Rattle.steps.specs.declared.Valued.{Valued}
 use Rattle.steps.specs.declared.Step.{Step}
-use Rattle.reader.specs.Readers.{Free, Asked, Reached, Value, ValueIs, StepAsked, Stepped, MoreRead, StepIs}
+use Rattle.reader.specs.Readers.{Free, Asked, Value, ValueIs, StepAsked, Stepped, MoreRead, StepIs}
 use Rattle.reader.specs.Measures.{need}
 use Rattle.reader.proofs.Pieces as P
 use Rattle.reader.proofs.ValueRuns.{ValueInv, value-start, value-turn, value-none, value-odd, value-is, value-reached, value-shown, value-fits}

@@ -1,9 +1,9 @@
 -- The loop over the pieces of a value: its invariant, and one law for each way out of a turn.
 use mathlib.Core.Path.{_≡_, refl, sym, ap, _∙_}
-use Prim.Native.Nat.{ℕ, zero, suc, _+_, _*_, _-_, _≤_, _<_}
+use Prim.Native.Nat.{ℕ, suc, _+_, _*_, _-_, _≤_, _<_}
 use mathlib.Core.Bool.{Bool, true, false}
-use mathlib.Core.List.{List, [], _∷_, _++_, append-nil}
-use mathlib.Core.Option.{Option, none, some}
+use mathlib.Core.List.{List, [], _++_, append-nil}
+use mathlib.Core.Option.{none, some}
 use native.Mathlib.Omega.{arith}
 use lib.Dec.{eqb}
 use borrow.Author.Tests.{eqb-true, eqb-false}
@@ -12,7 +12,7 @@ use lib.Seq.{slice, slice-empty}
 use Rattle.answers.specs.Theory.Sound.{clash}
 use Rattle.rules.specs.Bytes.{Text}
 use Rattle.rules.specs.Pieces.{scalarText}
-use Rattle.rules.specs.Refusals.{Refusal, placed, spent, notAllowed, Read, got, rejected, readThen}
+use Rattle.rules.specs.Refusals.{placed, spent, notAllowed, Read, got, rejected, readThen}
 use Rattle.rules.specs.Characters.{afterInline}
 use Rattle.rules.specs.Tree.{Scalar, null, boolean, number, string, Node, simple, array, object, unresolved, Pieces, no-pieces, literal, substituted}
 use Rattle.rules.specs.Reading.{Start, startOf, Part, node, substitution, withPart, pieceAt, simpleKind, kindOf, sameKind, hasSubstitution, unlike, textJoined, judgeValue}
@@ -20,10 +20,11 @@ use Rattle.rules.specs.Theory.ValueSteps.{valueIn, value-nothing, value-pieces,
 use Rattle.chars.specs.declared.Cursor.{Cursor}
 use Rattle.items.specs.Codes.{codeOf}
 use Rattle.items.specs.Holds.{Spells, TextAt, Shown, PiecesAt}
-use Rattle.items.specs.Moving.{Grown, Agree, move-spells, move-pieces}
+use Rattle.items.specs.Moving.{Grown, move-spells, move-pieces}
 use Rattle.items.specs.Joining.{spells-join, joinPieces, pieces-join}
-use Rattle.items.specs.Parts.{numbers, letters, part, back, part-length, back-length, back-below, back-above, agree-back, agree-kept, grown-back, grown-kept}
-use Rattle.values.specs.Runs.{KindIs, pieceCount, RunOf, AddIs, Comes, start-run}
+use Rattle.chars.specs.Parts.{part, back, back-length, back-below, back-above}
+use Rattle.items.specs.Parts.{numbers, letters, agree-back, agree-kept, grown-back, grown-kept}
+use Rattle.values.specs.Runs.{KindIs, pieceCount, RunOf, Comes, start-run}
 use Rattle.values.specs.Shows.{shown-of, text-join, subs-join, unlike-join}
 use Rattle.values.specs.declared.Run.{Run}
 use Rattle.reader.specs.Readers.{Free, Asked, Reached, Follows, MoreRead}

@@ -1,14 +1,14 @@
 -- What the readers of array, object and value promise: what the rules read, and that the table and the text part hold it.
 use mathlib.Core.Path.{_≡_}
 use Prim.Native.Nat.{ℕ, suc, _+_, _*_, _-_, _≤_, _<_}
-use mathlib.Core.List.{List, [], _∷_}
+use mathlib.Core.List.{List, _∷_}
 use mathlib.Core.Option.{none, some}
 use lib.ListN.{length}
 use lib.Seq.{slice}
 use Rattle.rules.specs.Bytes.{Text}
-use Rattle.rules.specs.Refusals.{Refusal, Read, got, rejected, readThen, counting}
+use Rattle.rules.specs.Refusals.{Read, got, readThen, counting}
 use Rattle.rules.specs.Pieces.{scalarText}
-use Rattle.rules.specs.Tree.{Key, Node, simple, array, object, unresolved, Elements, no-elements, element, Fields, no-fields, field, Pieces, no-pieces}
+use Rattle.rules.specs.Tree.{Key, Node, simple, array, object, unresolved, Elements, no-elements, element, Fields, no-fields, field, no-pieces}
 use Rattle.rules.specs.Reading.{Start, startOf, Part, node, substitution, withPart, counted, pieceAt, FieldRead, inside, elementAt, fieldAt, arrayAt, objectAt, parted}
 use Rattle.rules.specs.Theory.ValueSteps.{valueIn}
 use Rattle.chars.specs.declared.Cursor.{Cursor}

@@ -3,7 +3,6 @@ use mathlib.Core.Path.{_≡_, _∙_}
 use mathlib.Core.List.{List}
 use Prim.Native.Nat.{ℕ, _+_, _-_}
 use native.Mathlib.Omega.{arith}
-use lib.ListN.{length}
 use lib.Seq.{slice, length-slice}
 use Rattle.chars.specs.declared.DocAt.{DocAt}
 use Rattle.chars.specs.declared.TextAt.{TextAt}

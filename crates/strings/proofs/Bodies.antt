@@ -19,7 +19,8 @@ use Rattle.strings.specs.Answers.{decoded-text, decoded-refusal}
 use Rattle.chars.specs.declared.TextAt.{TextAt}
 use Rattle.strings.specs.declared.Quoted.{Quoted}
 use Rattle.strings.specs.declared.Piece.{Piece}
-use Rattle.strings.proofs.Buffers.{part, back, part-length, back-length, laid-join}
+use Rattle.chars.specs.Parts.{part, back, part-length, back-length}
+use Rattle.strings.proofs.Buffers.{laid-join}
 use Rattle.strings.proofs.Pieces.{more-is, close-is, bad-is}
 
 -- ---- a body by its pieces

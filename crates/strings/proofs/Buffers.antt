@@ -1,40 +1,13 @@
 -- Laws on lists: a part of a buffer that is lent and comes back, and bytes that are copied.
 use mathlib.Core.Path.{_≡_, refl, sym, ap, _∙_}
-use mathlib.Core.List.{List, [], _∷_, _++_, append-nil, append-assoc}
+use mathlib.Core.List.{List, [], _∷_, _++_, append-assoc}
 use Prim.Native.Nat.{ℕ, suc, _+_, _-_, _≤_, _<_}
-use native.Mathlib.Nat.{le-refl}
 use native.Mathlib.Numerals.{add-one}
 use native.Mathlib.Omega.{arith}
-use lib.ListN.{length, getD, set, take, drop, length-drop, length-append, length-set, drop-of-length-le}
-use lib.Seq.{take-all, drop-drop, take-at, drop-at, take-suc, drop-cons, drop-append-le, set-at, length-take-le, slice, slice-empty, length-slice}
-use borrow.Rule.Slice.PartMut.{putMid}
+use lib.ListN.{length, getD, set, take, drop, length-append, length-set}
+use lib.Seq.{drop-drop, take-at, drop-at, take-suc, drop-cons, drop-append-le, set-at, length-take-le, slice, slice-empty, length-slice}
+use Rattle.chars.specs.Parts.{part, back, part-is, back-is}
 use Rattle.strings.specs.Units.{Laid, WriteIs}
-
--- the part `&mut x[u..]` that is lent, and x after the part has come back as y
-abbrev pub part : ℕ → List ℕ → List ℕ
-part u x = take (length x - u) (drop u x)
-
-abbrev pub back : ℕ → List ℕ → List ℕ → List ℕ
-back u x y = putMid u (length x - u) x y
-
-part-is : (u : ℕ) (x : List ℕ) → part u x ≡ drop u x
-part-is u x = take-all (length x - u) (drop u x) (rw (length-drop u x) (le-refl (length x - u)))
-
-pub part-length : (u : ℕ) (x : List ℕ) → length (part u x) ≡ length x - u
-part-length u x = ap length (part-is u x) ∙ length-drop u x
-
-back-is : (u : ℕ) (x y : List ℕ) → back u x y ≡ take u x ++ y
-back-is u x y =
-    ap (λ (l : List ℕ). take u x ++ (y ++ l)) (drop-of-length-le (drop u x) {i = length x - u} (rw (length-drop u x) (le-refl (length x - u))))
-    ∙ ap (λ (l : List ℕ). take u x ++ l) (append-nil y)
-
-pub back-length : (u : ℕ) (x y : List ℕ) → u ≤ length x → length y ≡ length (part u x) → length (back u x y) ≡ length x
-back-length u x y h e =
-    ap length (back-is u x y) ∙ length-append (take u x) y ∙ ap (λ (n : ℕ). n + length y) (length-take-le u x h)
-    ∙ ap (λ (n : ℕ). u + n) (e ∙ part-length u x) ∙ whole
-  where
-    whole : u + (length x - u) ≡ length x
-    whole = omega arith
 
 -- text that is laid behind text that was laid
 pub laid-join : (t₁ t₂ b x y : List ℕ) (u : ℕ) → u ≡ length t₁ → Laid t₁ b x → Laid t₂ (part u x) y → Laid (t₁ ++ t₂) b (back u x y)

@@ -1,10 +1,10 @@
 -- What reading a key promises: all of the rules' field up to its value.
 use mathlib.Core.Path.{_≡_}
-use Prim.Native.Nat.{ℕ, suc, _+_, _-_, _*_, _≤_, _<_}
+use Prim.Native.Nat.{ℕ, suc, _+_, _-_, _≤_, _<_}
 use mathlib.Core.Bool.{Bool, true}
 use mathlib.Core.List.{List, [], _∷_}
 use mathlib.Core.Option.{none}
-use lib.ListN.{length, getD}
+use lib.ListN.{length}
 use Rattle.rules.specs.Refusals.{Refusal, placed, numberOf, placeOf, ok, Read, got, rejected, readThen, counting}
 use Rattle.rules.specs.Tree.{Key, Node}
 use Rattle.rules.specs.Paths.{segmentsAt, Element, elementsOf, anyEmpty, judge}
