@@ -714,25 +714,85 @@ accepted(b"a=\xc2\x80\xdf\xbf\xe0\xa0\x80\xed\x9f\xbf\xee\x80\x80\xef\xbf\xbf\xf
 refused(b"\xc3\xa9+", 3, 2)
 refused(b"\xc3\xa9", 4, 2)
 
-# ---- The source's examples, as far as they are in document 01's scope
+# ---- The source's examples, in its order. A fragment is put into a small field. Those that stand above are left out,
+# unless their items are written by hand here.
+# A number that JSON does not have is text. Where the source writes `\n` it means a newline: a backslash is not allowed.
+tree(b"a = NaN", 0, "7 3 - - 0 0", "5 2 61 4e614e 0 0", "21 1 - - 4 0")
+refused(b"[1\\n2\\n3]", 3, 2)
+# Equal keys; of two objects in one document the second is not allowed.
 accepted(b'{\n    "foo" : { "a" : 42 },\n    "foo" : { "b" : 43 }\n}\n', 8)
 accepted(b'{\n    "foo" : { "a" : 42, "b" : 43 }\n}\n', 6)
+refused(
+    b'{\n    "foo" : { "a" : 42 },\n    "foo" : { "b" : 43 }\n}\n\n'
+    b'{\n    "foo" : { "a" : 42, "b" : 43 }\n}\n',
+    3, 2 + 26 + 25 + 3,
+)
 accepted(b'{\n    "foo" : { "a" : 42 },\n    "foo" : null,\n    "foo" : { "b" : 43 }\n}\n', 10)
 accepted(b'{\n    "foo" : { "b" : 43 }\n}\n', 4)
+refused(
+    b'{\n    "foo" : { "a" : 42 },\n    "foo" : null,\n    "foo" : { "b" : 43 }\n}\n\n{\n    "foo" : { "b" : 43 }\n}\n',
+    3, 2 + 26 + 18 + 25 + 3,
+)
+# Unquoted strings, and values of several pieces
+tree(b"a = truefoo", 0, "7 4 - - 0 0", "5 3 61 74727565666f6f 0 0", "19 1 - - 4 0", "21 1 - - 8 0")
+tree(b"a = footrue", 0, "7 3 - - 0 0", "5 2 61 666f6f74727565 0 0", "21 1 - - 4 0")
+tree(b"a = 10.0bar", 0, "7 4 - - 0 0", "5 3 61 31302e30626172 0 0", "20 1 - - 4 0", "21 1 - - 8 0")
+tree(b"a = bar10.0", 0, "7 3 - - 0 0", "5 2 61 62617231302e30 0 0", "21 1 - - 4 0")
 accepted(b"a = foo bar baz", 4)
+tree(
+    b"a =  foo bar baz ", 0,
+    "7 5 - - 0 0",
+    "5 4 61 666f6f206261722062617a 0 0", "21 1 - - 5 0", "21 1 - - 9 0", "21 1 - - 13 0",
+)
 accepted(b'a = "foo bar baz"', 2)
+tree(b"a = foo bar", 0, "7 4 - - 0 0", "5 3 61 666f6f20626172 0 0", "21 1 - - 4 0", "21 1 - - 8 0")
+tree(b'a = "foo bar"', 0, "7 3 - - 0 0", "5 2 61 666f6f20626172 0 0", "21 1 - - 4 0")
+# ... a word or a number alone keeps its type, in quotes it is a string; with a further piece it is text as written
+tree(
+    b'[ "true", "false", "null" ]', 0,
+    "6 7 - - 0 0",
+    "5 2 - 74727565 2 0", "21 1 - - 2 0",
+    "5 2 - 66616c7365 10 0", "21 1 - - 10 0",
+    "5 2 - 6e756c6c 19 0", "21 1 - - 19 0",
+)
+tree(
+    b"a = true false null", 0,
+    "7 5 - - 0 0",
+    "5 4 61 747275652066616c7365206e756c6c 0 0", "19 1 - - 4 0", "18 1 - - 9 0", "17 1 - - 15 0",
+)
+tree(
+    b"[ 1e5, 1E5, 100000 ]", 0,
+    "6 7 - - 0 0",
+    "4 2 - 316535 2 0", "20 1 - - 2 0",
+    "4 2 - 314535 7 0", "20 1 - - 7 0",
+    "4 2 - 313030303030 12 0", "20 1 - - 12 0",
+)
+tree(
+    b"a = 1e5 1E5 100000", 0,
+    "7 5 - - 0 0",
+    "5 4 61 3165352031453520313030303030 0 0", "20 1 - - 4 0", "20 1 - - 8 0", "20 1 - - 12 0",
+)
+tree(b"[ true ]", 0, "6 3 - - 0 0", "3 2 - 74727565 2 0", "19 1 - - 2 0")
+tree(b"a = true foo", 0, "7 4 - - 0 0", "5 3 61 7472756520666f6f 0 0", "19 1 - - 4 0", "21 1 - - 9 0")
+# Objects and arrays of several pieces: newlines inside them, but not between them
 accepted(
     b"// one object\na : { b : 1, c : 2 }\n"
     b"// two objects that are merged via concatenation rules\na : { b : 1 } { c : 2 }\n"
     b"// two fields that are merged\na : { b : 1 }\na : { c : 2 }\n",
     6 + 7 + 8,
 )
+accepted(b"a : {\nb : 1\n} {\nc : 2\n}", 7)
+refused(b"a : { b : 1 }\n{ c : 2 }", 3, 14)
+refused(b"a : { b : 1 } [ 3, 4 ]", 11, 14)
 accepted(
     b"// one array\na : [ 1, 2, 3, 4 ]\n"
     b"// two arrays that are concatenated\na : [ 1, 2 ] [ 3, 4 ]\n"
-    b"// a later definition referring to an earlier\na : [ 1, 2 ]\na : ${a} [ 3, 4 ]\n",
+    b'// a later definition referring to an earlier\n// (see "self-referential substitutions" below)\n'
+    b"a : [ 1, 2 ]\na : ${a} [ 3, 4 ]\n",
     10 + 11 + 6 + 7, 1,
 )
+accepted(b"a : [\n1\n2\n] [\n3\n4\n]", 11)
+refused(b"a : [ 1, 2 ]\n[ 3, 4 ]", 3, 13)
 accepted(
     b"data-center-generic = { cluster-size = 6 }\n"
     b'data-center-east = ${data-center-generic} { name = "east" }\n',
@@ -743,25 +803,83 @@ accepted(b'// this is an array with one element, the string "1 2 3 4"\n[ 1 2 3 4
 accepted(b"// this is an array of four integers\n[ 1\n  2\n  3\n  4 ]\n", 8)
 accepted(b"// an array of one element, the array [ 1, 2, 3, 4 ]\n[ [ 1, 2 ] [ 3, 4 ] ]\n", 11)
 accepted(b"// an array of two arrays\n[ [ 1, 2 ]\n  [ 3, 4 ] ]\n", 12)
+refused(
+    b'// this is an array with one element, the string "1 2 3 4"\n[ 1 2 3 4 ]\n'
+    b"// this is an array of four integers\n[ 1\n  2\n  3\n  4 ]\n\n"
+    b"// an array of one element, the array [ 1, 2, 3, 4 ]\n[ [ 1, 2 ] [ 3, 4 ] ]\n"
+    b"// an array of two arrays\n[ [ 1, 2 ]\n  [ 3, 4 ] ]\n",
+    3, 59 + 12 + 37,
+)
 accepted(b"[ This is an unquoted string my name is ${name}, Hello ${world} ]", 10 + 3, 2)
 accepted(b"[ ${a} ${b}, ${x} ${y} ]", 6, 2)
+refused(
+    b"[ This is an unquoted string my name is ${name}, Hello ${world} ]\n[ ${a} ${b}, ${x} ${y} ]\n",
+    3, 66,
+)
+# Paths: the elements of each, in a substitution and as a key
+tree(b"a = ${foo.bar}", 1, "7 3 - - 0 0", "8 2 61 - 0 0", "25 1 - 666f6f62617200030006 4 2")
+tree(b"{ foo.bar : 42 }", 0, "7 4 - - 0 0", "7 3 666f6f - 2 0", "4 2 626172 3432 6 0", "20 1 - - 12 0")
+tree(
+    b'a = ${foo.bar."hello.world"}', 1,
+    "7 3 - - 0 0",
+    "8 2 61 - 0 0", "25 1 - 666f6f62617268656c6c6f2e776f726c64000300060011 4 3",
+)
+tree(
+    b'foo.bar."hello.world" : 42', 0,
+    "7 5 - - 0 0",
+    "7 4 666f6f - 0 0", "7 3 626172 - 4 0", "4 2 68656c6c6f2e776f726c64 3432 8 0", "20 1 - - 24 0",
+)
+tree(b"a = ${10.0foo}", 1, "7 3 - - 0 0", "8 2 61 - 0 0", "25 1 - 313030666f6f00020006 4 2")
+tree(b"10.0foo : 42", 0, "7 4 - - 0 0", "7 3 3130 - 0 0", "4 2 30666f6f 3432 3 0", "20 1 - - 10 0")
+tree(b"a = ${foo10.0}", 1, "7 3 - - 0 0", "8 2 61 - 0 0", "25 1 - 666f6f31303000050006 4 2")
+tree(b"foo10.0 : 42", 0, "7 4 - - 0 0", "7 3 666f6f3130 - 0 0", "4 2 30 3432 6 0", "20 1 - - 10 0")
+tree(b'a = ${foo"10.0"}', 1, "7 3 - - 0 0", "8 2 61 - 0 0", "25 1 - 666f6f31302e300007 4 1")
+tree(b'foo"10.0" : 42', 0, "7 3 - - 0 0", "4 2 666f6f31302e30 3432 0 0", "20 1 - - 12 0")
+tree(b"a = ${1.2.3}", 1, "7 3 - - 0 0", "8 2 61 - 0 0", "25 1 - 313233000100020003 4 3")
+tree(b"1.2.3 : 42", 0, "7 5 - - 0 0", "7 4 31 - 0 0", "7 3 32 - 2 0", "4 2 33 3432 4 0", "20 1 - - 8 0")
+tree(b"a = ${true}", 1, "7 3 - - 0 0", "8 2 61 - 0 0", "25 1 - 747275650004 4 1")
+tree(b'a = ${a."".b}', 1, "7 3 - - 0 0", "8 2 61 - 0 0", "25 1 - 6162000100010002 4 3")
+tree(b'a."".b : 42', 0, "7 5 - - 0 0", "7 4 61 - 0 0", "7 3 - - 2 0", "4 2 62 3432 5 0", "20 1 - - 9 0")
+accepted_each(2, 0, b'"true" : 42', b'"3" : 42')
+accepted(b'"3" : { "14" : 42 }', 4)
+# Substitutions: `${?` in one, none in a key or in another, and none inside quotes
+accepted_each(2, 1, b"a = ${pathexpression}", b"a = ${?pathexpression}")
+refused(b"a = ${ ?pathexpression}", 3, 7)
+refused(b"a = $ {?pathexpression}", 3, 4)
+refused(b"${pathexpression} : 42", 7, 0)
+refused(b"a = ${foo.${bar}}", 3, 10)
 accepted(b"key : ${animal.favorite} is my favorite animal", 6, 1)
 accepted(b'key : ${animal.favorite}" is my favorite animal"', 3, 1)
+accepted(b'key : "${animal.favorite} is my favorite animal"', 2)
 accepted(b'{ "HOME" : null }', 2)
+accepted(b'{ "HOME" : null, a : ${HOME} }', 4, 1, b"HOME=/home\0")
 accepted(b"foo : ${?bar}", 2, 1)
 accepted(b"foo : ${?bar}${?baz}", 3, 1)
+accepted(b"[ ${?foo} ]", 2, 1)
+# A field that refers to itself
 accepted(b'path : "a:b:c"\npath : ${path}":d"', 5, 1)
 refused(b"path : a:b:c", 3, 8)
+accepted(b"a : ${a}", 2, 1)
 accepted(b"a : ${a}bc", 3, 1)
 accepted(b"path : ${path} [ /usr/bin ]", 5, 1)
 accepted(b"a : { b : ${a} }", 4, 1)
+accepted(b"a : [${a}]", 4, 1)
 accepted(b"a={ x : 42, y : ${a.x} }", 6, 1)
 accepted(b"a = ${?a} [b]", 5, 1)
+accepted(b"a = []", 2)
 accepted(b"foo : ${foo} // an error", 2, 1)
+accepted(b"foo : { a : 1 }", 4)
+accepted(b"foo : ${foo}", 2, 1)
 accepted(b"foo : { a : 1 }\nfoo : ${foo}", 6, 1)
+accepted(b"{ a : 1 }", 2)
+accepted(b"foo : ${foo}\nfoo : { a : 1 }", 6, 1)
 accepted(b"foo : ${?foo} // this field just disappears silently", 2, 1)
 accepted(b"foo : ${does-not-exist}\nfoo : 42", 4, 1)
+accepted(b"foo : ${foo}, foo : 42", 4, 1)
 accepted(b"foo : { a : { c : 1 } }\nfoo : ${foo.a}\nfoo : { a : 2 }\n", 12, 1)
+accepted(b"{ c : 1 }", 2)
+accepted(b"{ a : 2, c : 1 }", 4)
+accepted(b"bar : { foo : 42,\n        baz : ${bar.foo}\n      }\n", 6, 1)
 accepted(b"bar : { foo : 42,\n        baz : ${bar.foo}\n      }\nbar : { foo : 43 }\n", 6 + 4, 1)
 accepted(
     b"// bar.a should end up as 4\nbar : { a : ${foo.d}, b : 1 }\nbar.b = 3\n"
@@ -772,12 +890,54 @@ accepted(b"a = ${?a}foo\n", 3, 1)
 accepted(b"bar : ${foo}\nfoo : ${bar}\n", 4, 2)
 accepted(b"a : ${b}\nb : ${c}\nc : ${a}\n", 6, 3)
 accepted(b"a : 1\nb : 2\na : ${b}\nb : ${a}\n", 8, 2)
+# Objects that are merged: each alone, what comes out, and all in an array
+accepted_each(4, 0, b"{ a : { x : 1 } }", b"{ a : { y : 2 } }")
+accepted_each(2, 0, b"{ a : 42 }", b"{ y : 2 }")
+accepted(b"{ a : { x : 1, y : 2 } }", 6)
 accepted(b"[ { a : { x : 1 } }, { a : 42 }, { a : { y : 2 } } ]", 6 + 4 + 6)
+accepted(b"[ { a : { x : 1 } }, { a : { y : 2 } }, { a : 42 } ]", 6 + 6 + 4)
+# Keys
+accepted_each(2, 0, b"hyphen-separated : 42", b"camelCase : 42")
 # Where document 01 is narrower: no `include`, no `+=`, only ASCII whitespace.
 refused(b'include "foo.conf"\n', 6, 0)
 refused(b'a : { include "foo.conf" }', 6, 6)
 refused(b"path += /usr/bin", 3, 5)
-accepted(b"\xc2\xa0{ a : 1 }", 4)
+refused(b"a = []\na += b\n", 3, 9)
+for space in [b"\xc2\xa0", b"\xe2\x80\x87", b"\xe2\x80\xaf", b"\xe2\x80\xa8", b"\xe2\x80\xa9", b"\xef\xbb\xbf"]:
+    accepted(space + b"{ a : 1 }", 4)
+# ... no type conversion: of the six words for a boolean two are one, and in quotes none
+tree(
+    b"[true, yes, on, false, no, off]", 0,
+    "6 13 - - 0 0",
+    "3 2 - 74727565 1 0", "19 1 - - 1 0",
+    "5 2 - 796573 7 0", "21 1 - - 7 0",
+    "5 2 - 6f6e 12 0", "21 1 - - 12 0",
+    "2 2 - 66616c7365 16 0", "18 1 - - 16 0",
+    "5 2 - 6e6f 23 0", "21 1 - - 23 0",
+    "5 2 - 6f6666 27 0", "21 1 - - 27 0",
+)
+accepted(b'[ "true", "yes", "on", "false", "no", "off" ]', 12)
+# ... no units: their names are text, and a number with one is two pieces, where an `e` could be an exponent too
+accepted(
+    b"[ ns, nanosecond, nanoseconds\nus, microsecond, microseconds\nms, millisecond, milliseconds\n"
+    b"s, second, seconds\nm, minute, minutes\nh, hour, hours\nd, day, days ]",
+    2 * 7 * 3,
+)
+accepted(
+    b"[ B, b, byte, bytes\nkB, kilobyte, kilobytes\nMB, megabyte, megabytes\nGB, gigabyte, gigabytes\n"
+    b"TB, terabyte, terabytes\nPB, petabyte, petabytes\nEB, exabyte, exabytes\nZB, zettabyte, zettabytes\n"
+    b"YB, yottabyte, yottabytes ]",
+    2 * (4 + 8 * 3),
+)
+accepted(
+    b"[ K, k, Ki, KiB, kibibyte, kibibytes\nM, m, Mi, MiB, mebibyte, mebibytes\nG, g, Gi, GiB, gibibyte, gibibytes\n"
+    b"T, t, Ti, TiB, tebibyte, tebibytes\nP, p, Pi, PiB, pebibyte, pebibytes\nE, e, Ei, EiB, exbibyte, exbibytes\n"
+    b"Z, z, Zi, ZiB, zebibyte, zebibytes\nY, y, Yi, YiB, yobibyte, yobibytes ]",
+    2 * 8 * 6,
+)
+accepted(b"[ 1EB, 1exabyte, 1exabytes, 1E, 1e, 1Ei, 1EiB, 1exbibyte, 1exbibytes ]", 3 * 9)
+accepted(b'a = "128K"', 2)
+refused(b"a = java -Xmx 2G", 5, 9)
 
 # ---- Limits, each met, and passed by one
 # Document: 32,768 bytes

@@ -2,13 +2,14 @@
 use mathlib.Core.Path.{_≡_, refl, sym, ap, _∙_}
 use mathlib.Core.Bool.{true, false}
 use mathlib.Core.List.{List}
-use Prim.Native.Nat.{ℕ, _+_, _*_, _≤_, _<_}
+use Prim.Native.Nat.{ℕ, _+_, _*_, _-_, _≤_, _<_}
 use native.Mathlib.Omega.{arith}
 use mir.Syntax.{w64}
 use mir.Val.{Fits}
 use lib.Dec.{ltb}
 use lib.ListN.{length, getD}
 use borrow.Author.Tests.{lt-ltb, le-ltb}
+use Rattle.rules.specs.Sizes.{maxItems}
 use Rattle.rules.specs.Refusals.{Refusal, placed, Read, got, rejected, readThen}
 use Rattle.rules.specs.Characters.{afterGap}
 use Rattle.rules.specs.Tree.{Root, rootNode}
@@ -23,40 +24,42 @@ use Rattle.items.specs.Parts.{numbers, letters}
 use Rattle.items.specs.Writing.{ItemAsked, ItemIs}
 use Rattle.items.specs.declared.Item.{Item}
 use Rattle.reader.specs.Readers.{Free}
+use Rattle.steps.specs.Decisions.{nestingOf}
 use Rattle.steps.specs.declared.Listed.{Listed}
 use Rattle.documents.specs.Roots.{Outline, Ends, OutlinedAsked, OutlinedIs}
 
 -- ---- the rules' root
 
-root-rejected : (s : List ℕ) (x : Refusal) → rootAt s (afterGap s 0) ≡ rejected x → readRoot s ≡ rejected x
-unfolding readRoot
-root-rejected s x e = rw e refl
+module _ (s : List ℕ) (nesting items : ℕ) where
+  root-rejected : (x : Refusal) → rootAt s nesting (afterGap s 0) items ≡ rejected x → readRoot s nesting items ≡ rejected x
+  unfolding readRoot
+  root-rejected x e = rw e refl
 
-module _ (s : List ℕ) where
   -- behind the root stands only a gap
   abbrev ended : Root → ℕ → ℕ → Read Root
-  ended r end items = elim (ltb (afterGap s end) (length s)) [ true ↦ rejected (placed 3 (afterGap s end)) | false ↦ got r (afterGap s end) items ]
+  ended r end n = elim (ltb (afterGap s end) (length s)) [ true ↦ rejected (placed 3 (afterGap s end)) | false ↦ got r (afterGap s end) n ]
 
-  by-end : readRoot s ≡ readThen (rootAt s (afterGap s 0)) ended
+  by-end : readRoot s nesting items ≡ readThen (rootAt s nesting (afterGap s 0) items) ended
   unfolding readRoot
   by-end = refl
 
-  module _ (r : Root) (end n : ℕ) (e : rootAt s (afterGap s 0) ≡ got r end n) where
-    here : readRoot s ≡ ended r end n
+  module _ (r : Root) (end n : ℕ) (e : rootAt s nesting (afterGap s 0) items ≡ got r end n) where
+    here : readRoot s nesting items ≡ ended r end n
     here = by-end ∙ ap (λ (m : Read Root). readThen m ended) e
 
-    root-trailing : afterGap s end < length s → readRoot s ≡ rejected (placed 3 (afterGap s end))
+    root-trailing : afterGap s end < length s → readRoot s nesting items ≡ rejected (placed 3 (afterGap s end))
     root-trailing l = here ∙ rw (lt-ltb (afterGap s end) (length s) l, ended) refl
 
-    root-got : length s ≤ afterGap s end → readRoot s ≡ got r (afterGap s end) n
+    root-got : length s ≤ afterGap s end → readRoot s nesting items ≡ got r (afterGap s end) n
     root-got l = here ∙ rw (le-ltb (afterGap s end) (length s) l, ended) refl
 
 -- ---- the item
 
-abbrev rootItem : ℕ → ℕ → Item
-rootItem kind items = record {
+-- the root's, with those that were counted from one count to another
+abbrev rootItem : ℕ → ℕ → ℕ → Item
+rootItem kind items n = record {
   kind = kind;
-  size = items + 1;
+  size = n - items + 1;
   key = record { 0 = 0 };
   keylen = record { 0 = 0 };
   text = record { 0 = 0 };
@@ -65,49 +68,49 @@ rootItem kind items = record {
   number = 0;
 }
 
-module _ {s table : List ℕ} {kind : ℕ} {r : Listed} where
-  pub outline-refused : {k : ℕ} {p : DocAt} → r ≡ Listed.Refused k p → OutlinedIs s kind r table table (Listed.Refused k p)
+module _ {s table : List ℕ} {kind items : ℕ} {r : Listed} where
+  pub outline-refused : {k : ℕ} {p : DocAt} → r ≡ Listed.Refused k p → OutlinedIs s kind items r table table (Listed.Refused k p)
   outline-refused {k} {p} e = record {
-    is = λ text o. let u : Outline s table text kind (Listed.Refused k p) = rw e at o in (u .0, root-rejected s (u .0) (u .1), u .2, u .3);
+    is = λ left text o.
+        let u : Outline s left items table text kind (Listed.Refused k p) = rw e at o in
+        (u .0, root-rejected s (nestingOf left) items (u .0) (u .1), u .2, u .3);
     kept = refl;
   }
 
   module _ {c : Cursor} {n : ℕ} (e : r ≡ Listed.Done c n) {g : Gap} (h : GapIs s (c .at .0) g) where
-    pub outline-trailing : g .next .at .0 < length s → OutlinedIs s kind r table table (Listed.Refused 3 (g .next .at))
+    pub outline-trailing : g .next .at .0 < length s → OutlinedIs s kind items r table table (Listed.Refused 3 (g .next .at))
     outline-trailing l = record {
-      is = λ text o.
-          let u : Outline s table text kind (Listed.Done c n) = rw e at o in
+      is = λ left text o.
+          let u : Outline s left items table text kind (Listed.Done c n) = rw e at o in
           let i = h .is in
-          (placed 3 (afterGap s (c .at .0)), root-trailing s (u .0) (c .at .0) n (u .1) (omega arith), refl, i);
+          (placed 3 (afterGap s (c .at .0)), root-trailing s (nestingOf left) items (u .0) (c .at .0) n (u .1) (omega arith), refl, i);
       kept = refl;
     }
 
-    pub outline-done : {table′ : List ℕ} → length s ≤ g .next .at .0 → ItemIs 0 (rootItem kind n) table table′ → n ≤ 2048
-        → OutlinedIs s kind r table table′ (Listed.Done (g .next) n)
-    outline-done {table′} l w m = record {
-      is = λ text o.
-          let u : Outline s table text kind (Listed.Done c n) = rw e at o in
+    pub outline-done : {table′ : List ℕ} → length s ≤ g .next .at .0 → ItemIs 0 (rootItem kind items n) table table′ → items ≤ n → n ≤ maxItems
+        → OutlinedIs s kind items r table table′ (Listed.Done (g .next) n)
+    outline-done {table′} l w k m = record {
+      is = λ left text o.
+          let u : Outline s left items table text kind (Listed.Done c n) = rw e at o in
           let i = h .is in (
             u .0,
-            rw i (root-got s (u .0) (c .at .0) n (u .1) (omega arith)),
-            m,
-            shown text (u .0) (u .2),
-            w .size,
+            rw i (root-got s (nestingOf left) items (u .0) (c .at .0) n (u .1) (omega arith)),
+            record { more = k; few = m; shown = shown text (u .0) (u .2); whole = w .size },
           );
       kept = w .kept;
     }
       where
-        shown : (text : List ℕ) (root : Root) → Shown (numbers table) (letters 0 text) 0 (2 * length s) Free 0 kind 0 0 0 1 (n + 1) (rootNode root)
+        shown : (text : List ℕ) (root : Root) → Shown (numbers table) (letters 0 text) 0 (2 * length s) Free 0 kind 0 0 0 1 (n - items + 1) (rootNode root)
             → NodeAt (numbers table′) (letters 0 text) 0 (2 * length s) Free 0 0 (rootNode root)
         shown text root x =
             let f : Grown (letters 0 text) (letters 0 text) 0 (2 * length s) 0 (2 * length s) =
             record { low = omega arith; high = omega arith; text = λ p k l. refl } in
-            move-shown Free (numbers table) (numbers table′) f 0 (rootNode root) 0 kind 0 0 0 1 (n + 1) (getD table′ 0 0) (getD table′ 4 0) (getD table′ 5 0)
+            move-shown Free (numbers table) (numbers table′) f 0 (rootNode root) 0 kind 0 0 0 1 (n - items + 1) (getD table′ 0 0) (getD table′ 4 0) (getD table′ 5 0)
             (getD table′ 7 0) 1 (0 + getD table′ 1 0) (w .kind) (w .text) (w .textlen) (w .number) (omega arith) (omega (arith, w .size))
             (λ k a b. let z : k + 8 * 0 ≡ k = omega arith in sym (ap (λ (j : ℕ). getD table′ j 0) z ∙ w .above k (omega arith))) x
 
-  module _ (a : OutlinedAsked s table kind r) {c : Cursor} {n : ℕ} (e : r ≡ Listed.Done c n) where
-    ends : Ends s (Listed.Done c n)
+  module _ (a : OutlinedAsked s table kind items r) {c : Cursor} {n : ℕ} (e : r ≡ Listed.Done c n) where
+    ends : Ends s items (Listed.Done c n)
     ends = rw e at (a .ends)
 
     pub outline-inside : c .at .0 ≤ length s
@@ -116,17 +119,20 @@ module _ {s table : List ℕ} {kind : ℕ} {r : Listed} where
     pub outline-short : length s ≤ 32768
     outline-short = a .short
 
-    pub outline-few : n ≤ 2048
-    outline-few = ends .1
+    pub outline-more : items ≤ n
+    outline-more = ends .1
 
-    pub outline-fits : Fits w64 (n + 1)
-    outline-fits = omega (arith, ends .1)
+    pub outline-few : n ≤ maxItems
+    outline-few = ends .2
 
-    pub outline-item : ItemAsked 0 (rootItem kind n) table
+    pub outline-fits : Fits w64 (n - items + 1)
+    outline-fits = omega (arith, ends .2)
+
+    pub outline-item : ItemAsked 0 (rootItem kind items n) table
     outline-item = record {
       room = omega (arith, a .room);
       kind = omega (arith, a .small);
-      size = omega (arith, ends .1);
+      size = omega (arith, ends .2);
       key = omega arith;
       keylen = omega arith;
       text = omega arith;
@@ -135,4 +141,4 @@ module _ {s table : List ℕ} {kind : ℕ} {r : Listed} where
       number = omega arith;
     }
 
-pub ruleset outlines = (outline-refused, outline-trailing, outline-done, outline-inside, outline-short, outline-few, outline-fits, outline-item)
+pub ruleset outlines = (outline-refused, outline-trailing, outline-done, outline-inside, outline-short, outline-more, outline-few, outline-fits, outline-item)

@@ -1,4 +1,4 @@
--- The numbers of a root that was read; documents; inputs.
+-- The numbers of a tree that was read; documents; inputs.
 use mathlib.Core.Path.{_≡_, refl, sym, ap, _∙_}
 use mathlib.Core.Bool.{Bool, true, false}
 use mathlib.Core.List.{List}
@@ -7,28 +7,26 @@ use Prim.Native.Nat.{ℕ, _+_, _*_, _≤_, _<_}
 use native.Mathlib.Omega.{arith}
 use lib.ListN.{length, getElem?}
 use borrow.Author.Tests.{le-leb, lt-leb}
-use Rattle.answers.specs.Theory.Sound.{clash}
+use Rattle.items.specs.Room.{tableRoom}
+use Rattle.rules.specs.Sizes.{maxItems}
 use Rattle.rules.specs.Refusals.{Refusal, placed, nowhere, numberOf, got, rejected}
-use Rattle.rules.specs.Utf8.{illFormed}
 use Rattle.rules.specs.Environment.{Entry, entriesOf, textOf}
 use Rattle.rules.specs.Tree.{Root, numbered, numberNode}
-use Rattle.rules.specs.Reading.{readRoot}
 use Rattle.rules.specs.Unresolved.{Unresolved, unresolvedIn}
-use Rattle.rules.specs.Documents.{Document, given, denied, limited, ofRoot, readDocument, withEnvironment, inputs}
+use Rattle.rules.specs.Documents.{Document, given, denied, limited, ofRoot, readTree, readDocument, withEnvironment, inputs}
 use Rattle.rules.specs.Theory.FirstBytes.{first-byte-order}
-use Rattle.chars.specs.Cursor.{illAt, doc}
+use Rattle.chars.specs.Cursor.{doc}
 use Rattle.chars.specs.declared.DocAt.{DocAt}
-use Rattle.chars.specs.declared.Cursor.{Cursor}
-use Rattle.chars.specs.declared.Ill.{Ill}
 use Rattle.environment.specs.Entries.{isSome}
 use Rattle.environment.specs.Answers.{valid-is, invalid-is}
 use Rattle.items.specs.Parts.{letters}
 use Rattle.numbering.specs.Numbers.{Counted, Numbered, NumberIs}
 use Rattle.numbering.specs.Reading.{as-read}
 use Rattle.numbering.specs.declared.Count.{Count}
-use Rattle.steps.specs.declared.Listed.{Listed}
-use Rattle.documents.specs.Roots.{ScratchAsked, Rooted, RootIs}
-use Rattle.documents.specs.Documents.{itemsOf, readingOf, ReadAs, Rooting, CountedIs, DocumentIs, InputsAs, InputsIs}
+use Rattle.documents.specs.Roots.{ScratchAsked, TreeAt, TreeAs, TreeIs}
+use Rattle.documents.specs.Documents.{itemsOf, readingOf, ReadAs, CountedIs, DocumentAsked, DocumentIs, InputsAs, InputsIs}
+use Rattle.documents.specs.declared.Counters.{Counters}
+use Rattle.documents.specs.declared.Tree.{Tree}
 use Rattle.documents.specs.declared.Reading.{Reading}
 
 -- ---- the numbers
@@ -45,9 +43,9 @@ limited-denied : (d : Document) (u : Unresolved) → getElem? (d .unresolved) 25
 unfolding limited
 limited-denied d u e = rw (e, limited)
 
-by-root : (s : List ℕ) → illFormed s ≡ none → readDocument s ≡ ofRoot (readRoot s)
+by-tree : (s : List ℕ) → readDocument s ≡ ofRoot (readTree s 1 0)
 unfolding readDocument
-by-root s e = rw (e, readDocument)
+by-tree s = refl
 
 of-got : (r : Root) (end items : ℕ) → ofRoot (got r end items) ≡ limited (record { root = numbered r; unresolved = unresolvedIn (numbered r) })
 unfolding ofRoot
@@ -58,55 +56,54 @@ unfolding ofRoot
 of-rejected x = refl
 
 module _ {s : List ℕ} {items : ℕ} {table table′ : List ℕ} {r : Count} (h : NumberIs table (items + 1) table′ r) where
-  module _ (text : List ℕ) (end : ℕ) (ρ : Rooting s items table text end) where
+  module _ (text : List ℕ) (root : Root) (end : ℕ) (q : readTree s 1 0 ≡ got root end items) (m : TreeAt s table text 0 items root) where
     d : Document
-    d = record { root = numbered (ρ .tree); unresolved = unresolvedIn (numbered (ρ .tree)) }
+    d = record { root = numbered root; unresolved = unresolvedIn (numbered root) }
 
-    counted-as : Counted table′ (items + 1) (letters 0 text) 0 (2 * length s) r (numbered (ρ .tree))
+    counted-as : Counted table′ (items + 1) (letters 0 text) 0 (2 * length s) r (numbered root)
     counted-as =
-        h .is (ρ .tree) (letters 0 text) 0 (2 * length s)
-        (record { shown = ρ .shown; whole = ρ .whole; read = as-read s (ρ .tree) end items (ρ .read) })
+        h .is root (letters 0 text) 0 (2 * length s) (record { shown = m .shown; whole = omega (arith, m .whole); read = as-read s 1 0 root end items q })
 
     here : readDocument s ≡ limited d
     unfolding d
-    here = by-root s (ρ .formed) ∙ ap ofRoot (ρ .read) ∙ of-got (ρ .tree) end items
+    here = by-tree s ∙ ap ofRoot q ∙ of-got root end items
 
     done : {c : ℕ} → r ≡ Count.Done c → ReadAs s (readDocument s) table′ text (Reading.Done items c)
     unfolding d
     done {c} e =
-        let n : Numbered table′ (items + 1) (letters 0 text) 0 (2 * length s) c (numbered (ρ .tree)) = rw e at counted-as in
-        let q : readDocument s ≡ given d = here ∙ limited-given d (n .few) in (
+        let n : Numbered table′ (items + 1) (letters 0 text) 0 (2 * length s) c (numbered root) = rw e at counted-as in
+        let g : readDocument s ≡ given d = here ∙ limited-given d (n .few) in (
           d,
-          q,
+          g,
           record {
             root = n .shown;
             whole = n .whole;
-            few = ρ .few;
-            counted = sym (ap itemsOf (ρ .read));
+            few = m .few;
+            counted = sym (ap itemsOf q);
             count = n .count;
             index = n .indexed;
-            order = first-byte-order s d q;
+            order = first-byte-order s d g;
           },
         )
 
     excess : {p : DocAt} → r ≡ Count.Excess p → ReadAs s (readDocument s) table′ text (Reading.Refused 8 p)
     unfolding d
     excess {p} e =
-        let n : Counted table′ (items + 1) (letters 0 text) 0 (2 * length s) (Count.Excess p) (numbered (ρ .tree)) = rw e at counted-as in
+        let n : Counted table′ (items + 1) (letters 0 text) 0 (2 * length s) (Count.Excess p) (numbered root) = rw e at counted-as in
         (placed 8 (n .0 .place), here ∙ limited-denied d (n .0) (n .1), refl, n .2)
 
   pub counted-done : {c : ℕ} → r ≡ Count.Done c → CountedIs s items table table′ (Reading.Done items c)
-  counted-done e = record { is = λ text end ρ. done text end ρ e; kept = h .same }
+  counted-done e = record { is = λ text root end q m. done text root end q m e; kept = h .same }
 
   pub counted-excess : {p : DocAt} → r ≡ Count.Excess p → CountedIs s items table table′ (Reading.Refused 8 p)
-  counted-excess e = record { is = λ text end ρ. excess text end ρ e; kept = h .same }
+  counted-excess e = record { is = λ text root end q m. excess text root end q m e; kept = h .same }
 
 pub ruleset counts = (counted-done, counted-excess)
 
 -- ---- documents
 
 -- what an answer says is an equation
-told : (s x t : List ℕ) (r : Reading) → ReadAs s (readDocument s) x t r → r ≡ readingOf (λ d. d) (readDocument s) (itemsOf (readRoot s))
+told : (s x t : List ℕ) (r : Reading) → ReadAs s (readDocument s) x t r → r ≡ readingOf (λ d. d) (readDocument s) (itemsOf (readTree s 1 0))
 told s x t (Reading.Done items n) u = rw (u .1, u .2 .counted, u .2 .count) refl
 told s x t (Reading.Refused k p) u =
     rw (u .1) (ap (λ (j : ℕ). Reading.Refused j p) (u .2) ∙ ap (λ (q : ℕ). Reading.Refused (numberOf (u .0)) (doc q)) (u .3))
@@ -116,7 +113,7 @@ document-of : {s table text x t : List ℕ} {r : Reading} → ReadAs s (readDocu
 document-of {s} {table} {text} {x} {t} {r} u a b = record { answer = told s x t r u; is = u; kept-table = a; kept-text = b }
 
 told-inputs : (others : Bool) (s e x t : List ℕ) (r : Reading) → InputsAs others s e x t r
-    → r ≡ readingOf (λ y. y .document) (inputs others s e) (itemsOf (readRoot s))
+    → r ≡ readingOf (λ y. y .document) (inputs others s e) (itemsOf (readTree s 1 0))
 told-inputs others s e x t (Reading.Done items n) u = rw (u .1, u .2 .counted, u .2 .count) refl
 told-inputs others s e x t (Reading.Refused k p) u =
     rw (u .1) (ap (λ (j : ℕ). Reading.Refused j p) (u .2) ∙ ap (λ (q : ℕ). Reading.Refused (numberOf (u .0)) (doc q)) (u .3))
@@ -125,47 +122,36 @@ inputs-of : {others : Bool} {s e table text x t : List ℕ} {r : Reading} → In
     → InputsIs others s e table text x t r
 inputs-of {others} {s} {e} {table} {text} {x} {t} {r} u a b = record { answer = told-inputs others s e x t r u; is = u; kept-table = a; kept-text = b }
 
-ill-at : (s : List ℕ) (o : Option ℕ) → illFormed s ≡ o → {p : DocAt} → Ill.At p ≡ illAt o → readDocument s ≡ denied (placed 2 (p .0))
-unfolding readDocument
-ill-at s none e {p} q = clash (cc (q))
-ill-at s (some at) e {p} q =
-    let g : p ≡ doc at = cc (q) in
-    rw (e, readDocument) (ap (λ (x : DocAt). denied (placed 2 (x .0))) (sym g))
+pub document-scratch : {s table text : List ℕ} → DocumentAsked s table text → ScratchAsked s 0 31 0 table text
+document-scratch a = record {
+  short = a .short;
+  inside = omega arith;
+  nested = omega arith;
+  few = omega arith;
+  table-room = omega (arith, a .table-room);
+  text-room = a .text-room;
+}
 
-formed-at : (s : List ℕ) (o : Option ℕ) → illFormed s ≡ o → Ill.Nowhere ≡ illAt o → illFormed s ≡ none
-formed-at s none e q = e
-formed-at s (some at) e q = clash (cc (q))
+module _ {s table text x t : List ℕ} {r : Tree} (m : TreeIs s (record { left = 31; items = 0 }) table text x t r) where
+  pub document-refused : {k : ℕ} {p : DocAt} → r ≡ Tree.Refused k p → DocumentIs s table text x t (Reading.Refused k p)
+  document-refused {k} {p} q =
+      let u : TreeAs s (record { left = 31; items = 0 }) x t (Tree.Refused k p) = rw q at (m .is) in
+      document-of (u .0, by-tree s ∙ ap ofRoot (u .1) ∙ of-rejected (u .0), u .2, u .3) (m .kept-table) (m .kept-text)
 
-module _ {s table text : List ℕ} {i : Ill} (f : i ≡ illAt (illFormed s)) where
-  pub document-ill : {p : DocAt} → i ≡ Ill.At p → DocumentIs s table text table text (Reading.Refused 2 p)
-  document-ill {p} e = document-of (placed 2 (p .0), ill-at s (illFormed s) refl (sym e ∙ f), refl, refl) refl refl
+  module _ {c : Counters} (q : r ≡ Tree.Done c) where
+    read : TreeAs s (record { left = 31; items = 0 }) x t (Tree.Done c)
+    read = rw q at (m .is)
 
-  module _ (e : i ≡ Ill.Nowhere) {x t : List ℕ} {r : Listed} (m : RootIs s table text x t r) where
-    formed : illFormed s ≡ none
-    formed = formed-at s (illFormed s) refl (sym e ∙ f)
+    pub document-few : c .items ≤ maxItems
+    document-few = read .4 .few
 
-    pub document-refused : {k : ℕ} {p : DocAt} → r ≡ Listed.Refused k p → DocumentIs s table text x t (Reading.Refused k p)
-    document-refused {k} {p} q =
-        let u : Rooted s x t (Listed.Refused k p) = rw q at (m .is) in
-        document-of (u .0, by-root s formed ∙ ap ofRoot (u .1) ∙ of-rejected (u .0), u .2, u .3) (m .kept-table) (m .kept-text)
+    pub document-done : {x′ : List ℕ} {v : Reading} → CountedIs s (c .items) x x′ v → DocumentIs s table text x′ t v
+    document-done w = document-of (w .is t (read .0) (read .1) (read .2) (read .4)) (w .kept ∙ m .kept-table) (m .kept-text)
 
-    module _ {c : Cursor} {n : ℕ} (q : r ≡ Listed.Done c n) where
-      rooted : Rooted s x t (Listed.Done c n)
-      rooted = rw q at (m .is)
+  pub document-room : DocumentAsked s table text → tableRoom ≤ length x
+  document-room a = omega (arith, a .table-room, m .kept-table)
 
-      pub document-few : n ≤ 2048
-      document-few = rooted .2
-
-      pub document-done : {x′ : List ℕ} {v : Reading} → CountedIs s n x x′ v → DocumentIs s table text x′ t v
-      document-done w =
-          document-of
-          (w .is t (c .at .0) (record { tree = rooted .0; formed = formed; read = rooted .1; few = rooted .2; shown = rooted .3; whole = rooted .4 }))
-          (w .kept ∙ m .kept-table) (m .kept-text)
-
-pub document-room : {s table text x t : List ℕ} {r : Listed} → ScratchAsked s 0 table text → RootIs s table text x t r → 16648 ≤ length x
-document-room a m = omega (arith, a .table-room, m .kept-table)
-
-pub ruleset whole-documents = (document-ill, document-refused, document-few, document-done, document-room)
+pub ruleset whole-documents = (document-scratch, document-refused, document-few, document-done, document-room)
 
 -- ---- inputs
 
@@ -187,8 +173,8 @@ module _ (others : Bool) (s e : List ℕ) where
     unfolding inputs
     good-environment es q = rw (f, le-leb (length s) 32768 l, q, inputs)
 
-pub inputs-scratch : {s table text : List ℕ} → length s ≤ 32768 → 16648 ≤ length table → 65536 ≤ length text → ScratchAsked s 0 table text
-inputs-scratch l m n = record { short = l; inside = omega arith; table-room = m; text-room = omega arith }
+pub inputs-scratch : {s table text : List ℕ} → length s ≤ 32768 → tableRoom ≤ length table → 65536 ≤ length text → DocumentAsked s table text
+inputs-scratch l m n = record { short = l; table-room = m; text-room = omega arith }
 
 module _ {others : Bool} {s e table text : List ℕ} where
   refusal : inputs others s e ≡ denied (nowhere 1) → InputsIs others s e table text table text (Reading.Refused 1 (doc 0))

@@ -5,20 +5,20 @@ use mathlib.Core.Bool.{Bool}
 use mathlib.Core.List.{List, map}
 use mathlib.Core.Option.{none, some}
 use lib.ListN.{length}
+use Rattle.rules.specs.Sizes.{maxItems}
 use Rattle.rules.specs.Refusals.{Refusal, numberOf, placeOf, Read, got, rejected}
 use Rattle.rules.specs.Environment.{Entry, entriesOf, textOf}
-use Rattle.rules.specs.Utf8.{illFormed}
 use Rattle.rules.specs.Tree.{Root, rootNode}
-use Rattle.rules.specs.Reading.{readRoot}
 use Rattle.rules.specs.Unresolved.{Unresolved}
-use Rattle.rules.specs.Documents.{Document, Setting, Input, given, denied, readDocument, inputs}
-use Rattle.rules.specs.Theory.FirstBytes.{Rising}
+use Rattle.rules.specs.Documents.{Document, Setting, Input, given, denied, readTree, readDocument, inputs}
+use Rattle.rules.specs.Theory.Rising.{Rising}
 use Rattle.items.specs.Holds.{NodeAt}
 use Rattle.items.specs.Parts.{numbers, letters}
-use Rattle.reader.specs.Readers.{Free}
+use Rattle.items.specs.Room.{tableRoom}
 use Rattle.numbering.specs.Numbers.{Indexed}
 use Rattle.chars.specs.Cursor.{doc}
 use Rattle.chars.specs.declared.DocAt.{DocAt}
+use Rattle.documents.specs.Roots.{TreeAt}
 use Rattle.documents.specs.declared.Reading.{Reading}
 
 -- an input is refused by this number at this place
@@ -35,8 +35,8 @@ itemsOf (rejected x) = 0
 pub record Stands (s table text : List ℕ) (items unresolved : ℕ) (d : Document) : Type 0 where
   pub root : NodeAt (numbers table) (letters 0 text) 0 (2 * length s) (λ m b. m ≡ b) 0 0 (rootNode (d .root))
   pub whole : numbers table 1 ≡ items + 1
-  pub few : items ≤ 2048
-  pub counted : items ≡ itemsOf (readRoot s)
+  pub few : items ≤ maxItems
+  pub counted : items ≡ itemsOf (readTree s 1 0)
   pub count : unresolved ≡ length (d .unresolved)
   pub index : Indexed table (items + 1) (letters 0 text) 0 (2 * length s) 0 (d .unresolved)
   pub order : Rising (map (λ (u : Unresolved). u .place) (d .unresolved))
@@ -50,23 +50,20 @@ abbrev pub ReadAs : List ℕ → Input Document → List ℕ → List ℕ → Re
 ReadAs s m table text (Reading.Done items n) = (d : Document) × (m ≡ given d) × Stands s table text items n d
 ReadAs s m table text (Reading.Refused k p) = Denies m k p
 
--- a well-formed document's root was read, and its items stand in memory without their numbers
-pub record Rooting (s : List ℕ) (items : ℕ) (table text : List ℕ) (end : ℕ) : Type 0 where
-  pub tree : Root
-  pub formed : illFormed s ≡ none
-  pub read : readRoot s ≡ got tree end items
-  pub few : items ≤ 2048
-  pub shown : NodeAt (numbers table) (letters 0 text) 0 (2 * length s) Free 0 0 (rootNode tree)
-  pub whole : numbers table 1 ≡ items + 1
-
--- the numbers of a root that was read
+-- the numbers of a tree that was read and stands in memory without them
 pub record CountedIs (s : List ℕ) (items : ℕ) (table table′ : List ℕ) (r : Reading) : Type 0 where
-  pub is : (text : List ℕ) (end : ℕ) → Rooting s items table text end → ReadAs s (readDocument s) table′ text r
+  pub is : (text : List ℕ) (root : Root) (end : ℕ) → readTree s 1 0 ≡ got root end items → TreeAt s table text 0 items root
+      → ReadAs s (readDocument s) table′ text r
   pub kept : length table′ ≡ length table
+
+pub record DocumentAsked (s table text : List ℕ) : Type 0 where
+  pub short : length s ≤ 32768
+  pub table-room : tableRoom ≤ length table
+  pub text-room : 2 * length s ≤ length text
 
 -- The answer is the rules', and where they read a document it stands in memory.
 pub record DocumentIs (s table text table′ text′ : List ℕ) (r : Reading) : Type 0 where
-  pub answer : r ≡ readingOf (λ d. d) (readDocument s) (itemsOf (readRoot s))
+  pub answer : r ≡ readingOf (λ d. d) (readDocument s) (itemsOf (readTree s 1 0))
   pub is : ReadAs s (readDocument s) table′ text′ r
   pub kept-table : length table′ ≡ length table
   pub kept-text : length text′ ≡ length text
@@ -79,7 +76,7 @@ InputsAs others s e table text (Reading.Done items n) =
 InputsAs others s e table text (Reading.Refused k p) = Denies (inputs others s e) k p
 
 pub record InputsIs (others : Bool) (s e table text table′ text′ : List ℕ) (r : Reading) : Type 0 where
-  pub answer : r ≡ readingOf (λ x. x .document) (inputs others s e) (itemsOf (readRoot s))
+  pub answer : r ≡ readingOf (λ x. x .document) (inputs others s e) (itemsOf (readTree s 1 0))
   pub is : InputsAs others s e table′ text′ r
   pub kept-table : length table′ ≡ length table
   pub kept-text : length text′ ≡ length text

@@ -3,6 +3,18 @@ use chars::DocAt;
 use chars::TextAt;
 ghost use Rattle.items.specs.Writing.{FourAsked, FourIs, ItemAsked, ItemIs};
 
+/// Document 01's limit on items, which counts no root.
+pub const MAX_ITEMS: usize = 2048;
+
+/// How many items a table has room for, the root's included. A number of its own: items that the limit does not count may join.
+pub const CAPACITY: usize = 2049;
+
+/// Where the index from an unresolved value's number to its item begins, behind the room for items.
+pub const INDEX: usize = 8 * CAPACITY;
+
+/// How many numbers a table has: its items, and the items of 256 unresolved values.
+pub const TABLE: usize = INDEX + 256;
+
 /// The numbers of an item.
 pub struct Item {
     /// what it is

@@ -10,6 +10,7 @@ use lib.Dec.{ltb}
 use lib.ListN.{length, getD, set, getElem?, length-set, List·getD-eq-default}
 use lib.Seq.{getD-set-same, getD-set-other}
 use borrow.Author.Tests.{ltb-true, ltb-false}
+use Rattle.items.specs.Room.{indexAt, capacity, tableRoom}
 use Rattle.chars.specs.declared.DocAt.{DocAt}
 use Rattle.rules.specs.Tree.{Pieces, Root, fields, elements, rootNode, numberNode, numbered}
 use Rattle.rules.specs.Layers.{end}
@@ -31,7 +32,7 @@ read-there e = record { is = e }
 pub read-past : (t : List ℕ) (at : ℕ) → length t ≤ at → ReadIs t at 0
 read-past t at l = record { is = sym (List·getD-eq-default t 0 l) }
 
-pub give-both : {t u v : List ℕ} (i number : ℕ) → u ≡ set t (8 * i + 7) number → v ≡ set u (16392 + number) i → GiveIs i number t v
+pub give-both : {t u v : List ℕ} (i number : ℕ) → u ≡ set t (8 * i + 7) number → v ≡ set u (indexAt + number) i → GiveIs i number t v
 give-both i number e f = record { is = f ∙ rw e }
 
 -- ---- one item
@@ -57,9 +58,9 @@ pub record Passing (before : List ℕ) (items i count : ℕ) (now : List ℕ) : 
   pub to : i ≤ items
   pub count-is : count ≡ eights (table before) i
   pub few : count ≤ 256
-  pub kept : (k : ℕ) → k < 16392 → ((j : ℕ) → k ≡ 8 * j + 7 → table before (8 * j) ≡ 8 → ⊥) → table now k ≡ table before k
+  pub kept : (k : ℕ) → k < indexAt → ((j : ℕ) → k ≡ 8 * j + 7 → table before (8 * j) ≡ 8 → ⊥) → table now k ≡ table before k
   pub number : (j : ℕ) → j < i → table before (8 * j) ≡ 8 → table now (8 * j + 7) ≡ eights (table before) j
-  pub index : (j : ℕ) → j < i → table before (8 * j) ≡ 8 → table now (16392 + eights (table before) j) ≡ j
+  pub index : (j : ℕ) → j < i → table before (8 * j) ≡ 8 → table now (indexAt + eights (table before) j) ≡ j
 
 pub pass-start : {before : List ℕ} {items : ℕ} → Passing before items 0 0 before
 unfolding eights
@@ -75,13 +76,13 @@ pass-start = record {
 
 module _ {before now : List ℕ} {items i count : ℕ} (P : Passing before items i count now) where
   -- a kind is never written
-  kind-kept : (j : ℕ) → j < 2049 → table now (8 * j) ≡ table before (8 * j)
+  kind-kept : (j : ℕ) → j < capacity → table now (8 * j) ≡ table before (8 * j)
   kind-kept j l = P .kept (8 * j) (omega arith) (λ m e k. omega arith)
 
-  column-kept : (j c : ℕ) → j < 2049 → c < 7 → table now (8 * j + c) ≡ table before (8 * j + c)
+  column-kept : (j c : ℕ) → j < capacity → c < 7 → table now (8 * j + c) ≡ table before (8 * j + c)
   column-kept j c l m = P .kept (8 * j + c) (omega arith) (λ n e k. omega arith)
 
-  module _ (l : i < items) (few : items ≤ 2049) where
+  module _ (l : i < items) (few : items ≤ capacity) where
     other : (table now (8 * i) ≡ 8 → ⊥) → Passing before items (i + 1) count now
     other n =
         let z : table before (8 * i) ≡ 8 → ⊥ = λ e. n (kind-kept i (omega arith) ∙ e) in
@@ -102,25 +103,25 @@ module _ {before now : List ℕ} {items i count : ℕ} (P : Passing before items
             go true e = ltb-true j i e
             go false e = let q : j ≡ i = omega (arith, ltb-false j i e) in absurd (z (rw q at k))
 
-    module _ {after : List ℕ} (k : table now (8 * i) ≡ 8) (m : count < 256) (G : GiveIs i count now after) (room : 16648 ≤ length before) where
+    module _ {after : List ℕ} (k : table now (8 * i) ≡ 8) (m : count < 256) (G : GiveIs i count now after) (room : tableRoom ≤ length before) where
       kind : table before (8 * i) ≡ 8
       kind = sym (kind-kept i (omega arith)) ∙ k
 
-      apart : (at : ℕ) → (at ≡ 16392 + count → ⊥) → (at ≡ 8 * i + 7 → ⊥) → table after at ≡ table now at
+      apart : (at : ℕ) → (at ≡ indexAt + count → ⊥) → (at ≡ 8 * i + 7 → ⊥) → table after at ≡ table now at
       apart at a b =
-          ap (λ t. getD t at 0) (G .is) ∙ getD-set-other (set now (8 * i + 7) count) (16392 + count) at i 0 a
+          ap (λ t. getD t at 0) (G .is) ∙ getD-set-other (set now (8 * i + 7) count) (indexAt + count) at i 0 a
           ∙ getD-set-other now (8 * i + 7) at count 0 b
 
       numbered-here : table after (8 * i + 7) ≡ eights (table before) i
       numbered-here =
-          ap (λ t. getD t (8 * i + 7) 0) (G .is) ∙ getD-set-other (set now (8 * i + 7) count) (16392 + count) (8 * i + 7) i 0 (λ z. omega arith)
+          ap (λ t. getD t (8 * i + 7) 0) (G .is) ∙ getD-set-other (set now (8 * i + 7) count) (indexAt + count) (8 * i + 7) i 0 (λ z. omega arith)
           ∙ getD-set-same now (8 * i + 7) count 0 (omega (arith, P .same)) ∙ P .count-is
 
-      indexed-here : table after (16392 + eights (table before) i) ≡ i
+      indexed-here : table after (indexAt + eights (table before) i) ≡ i
       indexed-here =
           let c : eights (table before) i ≡ count = sym (P .count-is) in
-          rw c (ap (λ t. getD t (16392 + count) 0) (G .is)
-          ∙ getD-set-same (set now (8 * i + 7) count) (16392 + count) i 0 (rw (length-set now (8 * i + 7) count) (omega (arith, P .same))))
+          rw c (ap (λ t. getD t (indexAt + count) 0) (G .is)
+          ∙ getD-set-same (set now (8 * i + 7) count) (indexAt + count) i 0 (rw (length-set now (8 * i + 7) count) (omega (arith, P .same))))
 
       given : Passing before items (i + 1) (count + 1) after
       given = record {
@@ -140,14 +141,14 @@ module _ {before now : List ℕ} {items i count : ℕ} (P : Passing before items
           at-number j u v false e = let q : j ≡ i = omega (arith, ltb-false j i e) in rw q numbered-here
 
           at-index : (j : ℕ) → j < i + 1 → table before (8 * j) ≡ 8 → (t : Bool) → ltb j i ≡ t
-              → table after (16392 + eights (table before) j) ≡ j
+              → table after (indexAt + eights (table before) j) ≡ j
           at-index j u v true e =
               let q = ltb-true j i e in
               let w : eights (table before) j < count = omega (arith, P .count-is, eights-less (table before) j i v q) in
-              apart (16392 + eights (table before) j) (λ z. omega arith) (λ z. omega arith) ∙ P .index j q v
+              apart (indexAt + eights (table before) j) (λ z. omega arith) (λ z. omega arith) ∙ P .index j q v
           at-index j u v false e = let q : j ≡ i = omega (arith, ltb-false j i e) in rw q indexed-here
 
-    pub pass-more : {after : List ℕ} {c : ℕ} {r : Count} → 16648 ≤ length before → ItemIs i count now after r → r ≡ Count.Done c
+    pub pass-more : {after : List ℕ} {c : ℕ} {r : Count} → tableRoom ≤ length before → ItemIs i count now after r → r ≡ Count.Done c
         → Passing before items (i + 1) c after
     pass-more {after} {c} {r} room h e =
         let s : Step i count now after (Count.Done c) = rw e at (h .is) in
@@ -198,7 +199,7 @@ module _ {before : List ℕ} {items : ℕ} {h : ℕ → ℕ} {lo hi : ℕ} {root
       go (elements es) s = omega (arith, ends, elements-forward (table before) h lo hi Any es (0 + 1) (0 + table before (8 * 0 + 1)) (s .1))
 
   -- all are numbered
-  module _ {now : List ℕ} {count : ℕ} (P : Passing before items items count now) (few : items ≤ 2049) where
+  module _ {now : List ℕ} {count : ℕ} (P : Passing before items items count now) (few : items ≤ capacity) where
     given-all : Given (table before) h lo hi (table now) items
     given-all = record {
       kind = λ j l. kind-kept P j (omega arith);
@@ -217,7 +218,7 @@ module _ {before : List ℕ} {items : ℕ} {h : ℕ → ℕ} {lo hi : ℕ} {root
     item-of b u S =
         let j = S .item in
         let l : j + 1 < items = S .inside in
-        let e : table now (16392 + b) ≡ j = ap (λ c. table now (16392 + c)) (S .number) ∙ P .index j (omega arith) (S .kind) in
+        let e : table now (indexAt + b) ≡ j = ap (λ c. table now (indexAt + c)) (S .number) ∙ P .index j (omega arith) (S .kind) in
         let z : table now (8 * j + 1) ≡ table before (8 * j + 1) = column-kept P j 1 (omega arith) (omega arith) in
         record {
           inside = rw e (omega arith);
@@ -247,7 +248,7 @@ module _ {before : List ℕ} {items : ℕ} {h : ℕ → ℕ} {lo hi : ℕ} {root
         }
 
   -- there is one too many
-  module _ {now : List ℕ} {i count p : ℕ} (P : Passing before items i count now) (few : items ≤ 2049) (l : i < items)
+  module _ {now : List ℕ} {i count p : ℕ} (P : Passing before items i count now) (few : items ≤ capacity) (l : i < items)
       (k : table now (8 * i) ≡ 8) (m : count ≡ 256) (q : p ≡ table now (8 * (i + 1) + 6)) where
     one-too-many : (u : Unresolved) × (getElem? (unresolvedIn (numbered root)) 256 ≡ some u) × (p ≡ u .place)
     one-too-many =
@@ -260,7 +261,7 @@ module _ {before : List ℕ} {items : ℕ} {h : ℕ → ℕ} {lo hi : ℕ} {root
         let place : s .0 .place ≡ table before (8 * (i + 1) + 6) = rw e at (S .place) in
         (s .0, s .1, q ∙ column-kept P (i + 1) 6 (omega arith) (omega arith) ∙ sym place)
 
-module _ {before now : List ℕ} {items i count : ℕ} (P : Passing before items i count now) (few : items ≤ 2049) where
+module _ {before now : List ℕ} {items i count : ℕ} (P : Passing before items i count now) (few : items ≤ capacity) where
   pub pass-done : items ≤ i → NumberIs before items now (Count.Done count)
   pass-done l =
       let e : i ≡ items = omega (arith, P .to) in

@@ -1,11 +1,12 @@
--- What the pass over the items says of a document. The items stand from 0 on, eight numbers each, at most 2049 of them; the index from number
--- to item stands from 16392 = 8 * 2049 on.
+-- What the pass over the items says of a document. The items stand from 0 on, eight numbers each, up to the table's capacity; the index from
+-- number to item stands behind them.
 use mathlib.Core.Path.{_≡_}
 use Prim.Native.Nat.{ℕ, suc, _+_, _*_, _<_}
 use mathlib.Core.List.{List, [], _∷_}
 use mathlib.Core.Option.{none, some}
 use mathlib.Core.Logic.{_⊎_}
 use lib.ListN.{length, getD, set, getElem?}
+use Rattle.items.specs.Room.{indexAt}
 use Rattle.rules.specs.Tree.{Pieces, no-pieces, literal, substituted, Root, rootNode, numbered}
 use Rattle.rules.specs.Unresolved.{Unresolved, unresolvedIn}
 use Rattle.rules.specs.Theory.Numbering.{AllNode}
@@ -21,7 +22,7 @@ pub record ReadIs (table : List ℕ) (at r : ℕ) : Type 0 where
 
 -- an item's number, and the item of that number
 pub record GiveIs (i number : ℕ) (before after : List ℕ) : Type 0 where
-  pub is : after ≡ set (set before (8 * i + 7) number) (16392 + number) i
+  pub is : after ≡ set (set before (8 * i + 7) number) (indexAt + number) i
 
 -- one item: left alone; or numbered; or one too many
 abbrev pub Step : ℕ → ℕ → List ℕ → List ℕ → Count → Type 0
@@ -58,12 +59,12 @@ pub record Unnumbered (before : List ℕ) (items : ℕ) (h : ℕ → ℕ) (lo hi
 module _ (after : List ℕ) (items : ℕ) (h : ℕ → ℕ) (lo hi : ℕ) where
   -- the unresolved value numbered b, by the item that the index has for b
   pub record ItemOf (b : ℕ) (u : Unresolved) : Type 0 where
-    pub inside : table after (16392 + b) < items
-    pub kind : table after (8 * table after (16392 + b)) ≡ 8
-    pub number : table after (8 * table after (16392 + b) + 7) ≡ b
-    pub place : u .place ≡ table after (8 * (table after (16392 + b) + 1) + 6)
-    pub pieces : PiecesAt (table after) h lo hi (λ m c. m ≡ c) (table after (16392 + b) + 1)
-        (table after (16392 + b) + table after (8 * table after (16392 + b) + 1)) (u .pieces)
+    pub inside : table after (indexAt + b) < items
+    pub kind : table after (8 * table after (indexAt + b)) ≡ 8
+    pub number : table after (8 * table after (indexAt + b) + 7) ≡ b
+    pub place : u .place ≡ table after (8 * (table after (indexAt + b) + 1) + 6)
+    pub pieces : PiecesAt (table after) h lo hi (λ m c. m ≡ c) (table after (indexAt + b) + 1)
+        (table after (indexAt + b) + table after (8 * table after (indexAt + b) + 1)) (u .pieces)
 
   abbrev pub Indexed : ℕ → List Unresolved → Type 0
   Indexed b [] = Unit {0}

@@ -15,6 +15,8 @@ use Rattle.rules.specs.Pieces.{simpleAt}
 use Rattle.rules.specs.Paths.{Segment, Element, startsInclude, segmentsAt, elementsOf, judge, keysOf, substitutionAt}
 use Rattle.rules.specs.Tree.{Key, Node, simple, array, object, unresolved, Elements, no-elements, element, Fields, no-fields, field, Pieces, no-pieces, literal, substituted, Root, rootNode, joinElements, joinFields}
 use Rattle.rules.specs.Reading.{Start, brace, bracket, dollar, scalar, startOf, Part, node, substitution, withPart, counted, piecesFrom, hasSubstitution, kindOf, unlike, elementsJoined, fieldsJoined, simpleJoined, joined, judgeValue, theEnd, parted, membersFrom, membersAt, FieldRead, inside, fieldsOf, elementsFrom, valuePlace, allowedKeys, opened, fieldWith, fieldJudged, fieldAt, elementAt, arrayAt, objectAt, pieceAt, valueFrom, rootAt, readRoot}
+use Rattle.rules.specs.Utf8.{illFormed}
+use Rattle.rules.specs.Documents.{readTree}
 use Rattle.rules.specs.Theory.Choices.{by-test, by-option}
 use Rattle.rules.specs.Theory.Numbering.{AllNode, AllElements, AllFields, AllPieces}
 use Rattle.items.specs.Joining.{Simples}
@@ -244,14 +246,14 @@ value-whole (suc depth) s nesting at items =
 abbrev WholeRoot : Root → Type 0
 WholeRoot r = Whole (rootNode r)
 
-root-whole : (s : List ℕ) (at : ℕ) → Gives WholeRoot (rootAt s at)
+root-whole : (s : List ℕ) (nesting at items : ℕ) → Gives WholeRoot (rootAt s nesting at items)
 unfolding rootAt
-root-whole s at =
+root-whole s nesting at items₀ =
     by-test (Gives WholeRoot) (eqb (byteAt s at) 123) (λ e.
-    gives-then (AllFields AsRead) WholeRoot (objectAt valueAt 125 s 1 (at + 1) 0) _ (object-whole valueAt v 125 s 1 (at + 1) 0) (λ fs end items w. w)) (λ e.
+    gives-then (AllFields AsRead) WholeRoot (objectAt valueAt 125 s nesting (at + 1) items₀) _ (object-whole valueAt v 125 s nesting (at + 1) items₀) (λ fs end items w. w)) (λ e.
     by-test (Gives WholeRoot) (eqb (byteAt s at) 91) (λ f.
-    gives-then (AllElements AsRead) WholeRoot (arrayAt valueAt s 1 (at + 1) 0) _ (array-whole valueAt v s 1 (at + 1) 0) (λ es end items w. w)) (λ f.
-    gives-then (AllFields AsRead) WholeRoot (objectAt valueAt theEnd s 1 at 0) _ (object-whole valueAt v theEnd s 1 at 0) (λ fs end items w. w)))
+    gives-then (AllElements AsRead) WholeRoot (arrayAt valueAt s nesting (at + 1) items₀) _ (array-whole valueAt v s nesting (at + 1) items₀) (λ es end items w. w)) (λ f.
+    gives-then (AllFields AsRead) WholeRoot (objectAt valueAt theEnd s nesting at items₀) _ (object-whole valueAt v theEnd s nesting at items₀) (λ fs end items w. w)))
   where
     valueAt : ℕ → ℕ → ℕ → Read Node
     valueAt = valueFrom maxNesting s
@@ -259,11 +261,16 @@ root-whole s at =
     v : (nesting at items : ℕ) → Gives Whole (valueAt nesting at items)
     v nesting at items = value-whole maxNesting s nesting at items
 
-read-whole : (s : List ℕ) → Gives WholeRoot (readRoot s)
+root-read : (s : List ℕ) (nesting items : ℕ) → Gives WholeRoot (readRoot s nesting items)
 unfolding readRoot
-read-whole s =
-    gives-then WholeRoot WholeRoot (rootAt s (afterGap s 0)) _ (root-whole s (afterGap s 0))
+root-read s nesting items₀ =
+    gives-then WholeRoot WholeRoot (rootAt s nesting (afterGap s 0) items₀) _ (root-whole s nesting (afterGap s 0) items₀)
     (λ r end items w. by-test (Gives WholeRoot) (ltb (afterGap s end) (length s)) (λ e. tt) (λ e. w))
 
-pub as-read : (s : List ℕ) (root : Root) (at items : ℕ) → readRoot s ≡ got root at items → AllNode AsRead (rootNode root)
-as-read s root at items e = rw e at (read-whole s)
+tree-read : (s : List ℕ) (nesting items : ℕ) → Gives WholeRoot (readTree s nesting items)
+unfolding readTree
+tree-read s nesting items = by-option (Gives WholeRoot) (illFormed s) (λ e. root-read s nesting items) (λ place e. tt)
+
+pub as-read : (s : List ℕ) (nesting items₀ : ℕ) (root : Root) (at items : ℕ) → readTree s nesting items₀ ≡ got root at items
+    → AllNode AsRead (rootNode root)
+as-read s nesting items₀ root at items e = rw e at (tree-read s nesting items₀)

@@ -4,6 +4,7 @@ use chars::DocAt;
 ghost use mathlib.Core.Path.{_≡_};
 ghost use Prim.Native.Nat.{_≤_, _<_};
 ghost use lib.ListN.{length, set};
+ghost use Rattle.items.specs.Room.{capacity, tableRoom};
 ghost use Rattle.numbering.specs.Numbers.{ReadIs, GiveIs, ItemIs, NumberIs};
 
 /// How many unresolved values there are, all numbered; or the place of the first one too many.
@@ -36,16 +37,16 @@ fn put(table: &mut [u16], at: usize, x: usize)
 
 // Gives an item a number: in its last column, and in the index.
 fn give(table: &mut [u16], i: usize, number: usize)
-    requires { ⌜ (i < 2049) × (number < 256) × (16648 ≤ length (now table)) ⌝ }
+    requires { ⌜ (i < capacity) × (number < 256) × (tableRoom ≤ length (now table)) ⌝ }
     ensures { λ _. ⌜ GiveIs i number (now (table .entry)) (now (table .exit)) ⌝ }
 {
     put(table, 8 * i + 7, number);
-    put(table, 16392 + number, i);
+    put(table, items::INDEX + number, i);
 }
 
 // Numbers an item, if it is that of an unresolved value.
 fn number_item(table: &mut [u16], i: usize, count: usize) -> Count
-    requires { ⌜ (i < 2049) × (count ≤ 256) × (16648 ≤ length (now table)) ⌝ }
+    requires { ⌜ (i < capacity) × (count ≤ 256) × (tableRoom ≤ length (now table)) ⌝ }
     ensures { λ r. ⌜ ItemIs i count (now (table .entry)) (now (table .exit)) r ⌝ }
 {
     let kind = number_at(table, 8 * i);
@@ -65,7 +66,7 @@ fn number_item(table: &mut [u16], i: usize, count: usize) -> Count
 
 /// Numbers the unresolved values among the first so many items of the table and fills the index from number to item, behind the items.
 pub fn number_items(table: &mut [u16], items: usize) -> Count
-    requires { ⌜ (items ≤ 2049) × (16648 ≤ length (now table)) ⌝ }
+    requires { ⌜ (items ≤ capacity) × (tableRoom ≤ length (now table)) ⌝ }
     ensures { λ r. ⌜ NumberIs (now (table .entry)) items (now (table .exit)) r ⌝ }
 {
     let mut count = 0;

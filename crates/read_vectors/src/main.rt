@@ -7,6 +7,7 @@ use chars::DocAt;
 use documents::Reading;
 use libc::STDOUT_FILENO;
 ghost use Prim.Native.Nat.{_≤_, _<_};
+ghost use Rattle.items.specs.Room.{capacity};
 
 fn widen(n: u16) -> usize
     ensures { λ r. ⌜ r < 65536 ⌝ }
@@ -16,7 +17,7 @@ fn widen(n: u16) -> usize
 
 // Column c of item i.
 fn column(table: &[u16], i: usize, c: usize) -> usize
-    requires { ⌜ i < 2049 ⌝ }
+    requires { ⌜ i < capacity ⌝ }
     requires { ⌜ c < 8 ⌝ }
     ensures { λ r. ⌜ r < 65536 ⌝ }
 {
@@ -54,7 +55,7 @@ fn print_text(text: &[u8], offset: usize, size: usize)
 
 // The size of item i's text; behind the texts of a substitution's path stand their ends, 2 bytes each.
 fn text_size(table: &[u16], i: usize) -> usize
-    requires { ⌜ i < 2049 ⌝ }
+    requires { ⌜ i < capacity ⌝ }
     ensures { λ r. ⌜ r < 262144 ⌝ }
 {
     let size = column(table, i, 5);
@@ -66,7 +67,7 @@ fn text_size(table: &[u16], i: usize) -> usize
 
 // The texts of item i. Those of a simple value's pieces are not looked at: the value has them joined.
 fn print_texts(table: &[u16], text: &[u8], i: usize, looked: bool)
-    requires { ⌜ i < 2049 ⌝ }
+    requires { ⌜ i < capacity ⌝ }
 {
     if looked {
         print_text(text, column(table, i, 2), column(table, i, 3));
@@ -80,7 +81,7 @@ fn print_texts(table: &[u16], text: &[u8], i: usize, looked: bool)
 
 // Writes the line of item i; the items before `simple` are pieces of a simple value. Answers how far that reaches now.
 fn print_item(table: &[u16], text: &[u8], i: usize, simple: usize) -> usize
-    requires { ⌜ i < 2049 ⌝ }
+    requires { ⌜ i < capacity ⌝ }
 {
     let kind = column(table, i, 0);
     let size = column(table, i, 1);
@@ -93,7 +94,7 @@ fn print_item(table: &[u16], text: &[u8], i: usize, simple: usize) -> usize
 }
 
 fn print_items(table: &[u16], text: &[u8], count: usize)
-    requires { ⌜ count ≤ 2049 ⌝ }
+    requires { ⌜ count ≤ capacity ⌝ }
 {
     let mut simple = 0;
     let mut i = 0;
@@ -116,13 +117,13 @@ fn print_refused(number: u8, place: DocAt) {
 
 // The root's line and those of so many items.
 fn print_tree(table: &[u16], text: &[u8], items: usize) {
-    if items < 2049 {
+    if items < items::CAPACITY {
         print_items(table, text, items + 1);
     }
 }
 
 fn run(document: &[u8], environment: &[u8]) {
-    let mut table = [0u16; 16648];
+    let mut table = [0u16; items::TABLE];
     let mut text = [0u8; 65536];
     match documents::read_inputs(true, document, environment, &mut table, &mut text) {
         Reading::Done { items, unresolved } => {

@@ -4,6 +4,7 @@ use Prim.Native.Nat.{ℕ, suc, _+_, _-_, _≤_, _<_}
 use mathlib.Core.List.{List}
 use native.Mathlib.Omega.{arith}
 use lib.ListN.{length}
+use Rattle.rules.specs.Sizes.{maxItems}
 use Rattle.rules.specs.Reading.{elementAt}
 use Rattle.rules.specs.Theory.ValueSteps.{valueIn}
 use Rattle.chars.specs.Cursor.{doc}
@@ -21,14 +22,14 @@ use Rattle.reader.proofs.Parting.{parted-got, parted-fail, parted-rejec
 module _ {s : List ℕ} {at left items : ℕ} {table text : List ℕ} (a : Asked s at left items table text) where
   -- ---- no further item
 
-  pub element-full : {k : ℕ} → items ≡ 2048 → FullIs s at k → ElementIs s at left items table text table text (Listed.Refused k (doc at))
+  pub element-full : {k : ℕ} → items ≡ maxItems → FullIs s at k → ElementIs s at left items table text table text (Listed.Refused k (doc at))
   element-full {k} e h = record {
     is = (h .why, parted-rejected 93 s (ap (elementAt (valueIn s) s (nestingOf left) at) e ∙ h .is (valueIn s) (nestingOf left)), h .number, h .place);
     kept-table = refl;
     kept-text = refl;
   }
 
-  module _ (few : items ≡ 2048 → ⊥) where
+  module _ (few : items ≡ maxItems → ⊥) where
     here : elementAt (valueIn s) s (nestingOf left) at items ≡ valueIn s (nestingOf left) at (items + 1)
     here = element-by s (nestingOf left) at items (omega (arith, a .nested)) (omega arith) (omega (arith, a .few, few))
 
@@ -56,7 +57,7 @@ module _ {s : List ℕ} {at left items : ℕ} {table text : List ℕ} (a : Asked
           go (Valued.Refused k p) e = tt
           go (Valued.Done c n k o w) e =
               let t : Value s at left (items + 1) y z (Valued.Done c n k o w) = rw e at (m .is) in
-              let f : n ≤ 2048 = t .2 .few in
+              let f : n ≤ maxItems = t .2 .few in
               let g : c .at .0 ≤ length s = t .2 .inside in
               let h : suc at ≤ c .at .0 = t .2 .forward in (
                 a .short,

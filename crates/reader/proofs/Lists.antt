@@ -6,6 +6,7 @@ use mathlib.Core.List.{List, [], _∷_, _++_}
 use native.Mathlib.Omega.{arith}
 use lib.Dec.{eqb}
 use lib.ListN.{length}
+use Rattle.rules.specs.Sizes.{maxItems}
 use Rattle.rules.specs.Refusals.{Read, got}
 use Rattle.rules.specs.Characters.{afterGap}
 use Rattle.rules.specs.Tree.{Node, no-elements, element, no-fields, field}
@@ -71,7 +72,7 @@ pub record ListInv {A : Type 0} (K : Holding A) (closing : ℕ) (memberAt : ℕ 
   pub behind : at₀ ≤ at
   pub inside : at ≤ length s
   pub more : items₀ ≤ items
-  pub few : items ≤ 2048
+  pub few : items ≤ maxItems
   pub kept-table : length table ≡ length table₀
   pub kept-text : length text ≡ length text₀
 

@@ -8,6 +8,7 @@ use native.Mathlib.Omega.{arith}
 use lib.Dec.{ltb}
 use lib.ListN.{length, getD}
 use borrow.Author.Tests.{lt-ltb}
+use Rattle.rules.specs.Sizes.{maxItems}
 use Rattle.rules.specs.Refusals.{Refusal, placed, notAllowed, ok, fail, Read, got, rejected}
 use Rattle.rules.specs.Tree.{Key, Node, no-elements, element, no-fields, field}
 use Rattle.rules.specs.Reading.{Start, startOf, counted, parted, elementAt, inside}
@@ -37,16 +38,16 @@ module _ (closing : ℕ) (s : List ℕ) {A : Type 0} {m : Read A} where
 
 -- ---- elements
 
-pub element-by : (s : List ℕ) (nesting at items : ℕ) → 1 ≤ nesting → nesting ≤ 32 → items < 2048
+pub element-by : (s : List ℕ) (nesting at items : ℕ) → 1 ≤ nesting → nesting ≤ 32 → items < maxItems
     → elementAt (valueIn s) s nesting at items ≡ valueIn s nesting at (items + 1)
 unfolding elementAt counted
 element-by s nesting at items l m h = go (startOf s at) refl
   where
     go : (o : Option Start) → startOf s at ≡ o
-        → elim o [ none ↦ rejected (notAllowed s at) | some start ↦ elim (ltb items 2048) [ true ↦ valueIn s nesting at (items + 1) | false ↦ rejected (placed 8 at) ] ]
+        → elim o [ none ↦ rejected (notAllowed s at) | some start ↦ elim (ltb items maxItems) [ true ↦ valueIn s nesting at (items + 1) | false ↦ rejected (placed 8 at) ] ]
         ≡ valueIn s nesting at (items + 1)
     go none e = sym (value-nothing s nesting at (items + 1) l m e)
-    go (some start) e = rw (lt-ltb items 2048 h) refl
+    go (some start) e = rw (lt-ltb items maxItems h) refl
 
 -- an item in front of a node that stands behind it
 pub element-held : (x y z x′ : List ℕ) (i : Item) (at items end after n : ℕ) (nd : Node) → 8 ≤ length x → ItemIs 0 i (back 8 x y) x′ → i .size ≡ n - items → i .number ≡ 0

@@ -7,6 +7,7 @@ use native.Mathlib.Omega.{arith}
 use mir.Syntax.{w64}
 use mir.Val.{Fits}
 use lib.ListN.{length}
+use Rattle.rules.specs.Sizes.{maxItems}
 use Rattle.rules.specs.Refusals.{placed}
 use Rattle.rules.specs.Reading.{brace, bracket, dollar, scalar}
 use Rattle.rules.specs.Theory.ValueSteps.{valueIn}
@@ -88,7 +89,7 @@ module _ {s : List ℕ} {at w left items : ℕ} {x t : List ℕ} (a : PieceAsked
 
   -- ---- objects and arrays
 
-  asks-inner : {c : Cursor} → items < 2048 → 1 ≤ left → at < length s → c .at .0 ≡ at + 1
+  asks-inner : {c : Cursor} → items < maxItems → 1 ≤ left → at < length s → c .at .0 ≡ at + 1
       → Asked s (c .at .0) (left - 1) (items + 1) x (part (2 * c .at .0 - w) t)
   asks-inner {c} few deep inside e = record {
     short = a .short;

@@ -10,7 +10,7 @@ use lib.ListN.{length, getD, take, length-append, length-map}
 use borrow.Author.Tests.{lt-ltb}
 use Rattle.rules.specs.Pieces.{Token, simpleAt, scalarText}
 use Rattle.rules.specs.Paths.{Segment, segmentsAt, Element, elementsOf, judge, judged, textsOf, braced, substitutionAt}
-use Rattle.rules.specs.Sizes.{maxPath}
+use Rattle.rules.specs.Sizes.{maxPath, maxItems}
 use Rattle.rules.specs.Bytes.{byteAt}
 use Rattle.rules.specs.Characters.{afterInline}
 use Rattle.rules.specs.Refusals.{Refusal, notAllowed, Scan, ok, fail, andThen, Read, got, rejected, readThen, counting}
@@ -29,9 +29,9 @@ use Rattle.steps.specs.Decisions.{nestingOf}
 use Rattle.steps.specs.declared.Found.{Found}
 
 -- a counted piece is the piece behind one item more
-pub counted-is : {A : Type 0} (items at : ℕ) (k : ℕ → Read A) → items < 2048 → counted items at k ≡ k (items + 1)
+pub counted-is : {A : Type 0} (items at : ℕ) (k : ℕ → Read A) → items < maxItems → counted items at k ≡ k (items + 1)
 unfolding counted
-counted-is items at k h = rw (lt-ltb items 2048 h, counted)
+counted-is items at k h = rw (lt-ltb items maxItems h, counted)
 
 ends-long : (from : ℕ) (ts : List (List ℕ)) → length (pathEnds from ts) ≡ 2 * length ts
 unfolding pathEnds
@@ -72,7 +72,7 @@ substitution-named s at k end e = let h : Named (ok k end) = rw e at (go (eqb (b
     go true = braced-named s at true (afterInline s (at + 3))
     go false = braced-named s at false (afterInline s (at + 2))
 
-module _ {s : List ℕ} {at w left items : ℕ} {x t : List ℕ} (a : PieceAsked s at w left items x t) (few : items < 2048) where
+module _ {s : List ℕ} {at w left items : ℕ} {x t : List ℕ} (a : PieceAsked s at w left items x t) (few : items < maxItems) where
   abbrev nesting : ℕ
   nesting = nestingOf left
 

@@ -9,6 +9,7 @@ use lib.Dec.{eqb}
 use borrow.Author.Tests.{eqb-true, eqb-false}
 use lib.ListN.{length, getD, length-append}
 use lib.Seq.{slice, slice-empty}
+use Rattle.rules.specs.Sizes.{maxItems}
 use Rattle.answers.specs.Theory.Sound.{clash}
 use Rattle.rules.specs.Bytes.{Text}
 use Rattle.rules.specs.Pieces.{scalarText}
@@ -45,7 +46,7 @@ pub record ValueInv (s : List ℕ) (at₀ left items₀ : ℕ) (table₀ text₀
   pub gap : from ≤ at
   pub inside : at ≤ length s
   pub more : items₀ ≤ items
-  pub few : items ≤ 2048
+  pub few : items ≤ maxItems
   pub used-low : 2 * at₀ ≤ used
   pub used-high : used ≤ 2 * from
   pub count : run .count ≤ items

@@ -5,6 +5,7 @@ use mathlib.Core.List.{List, _∷_}
 use mathlib.Core.Option.{none, some}
 use lib.ListN.{length}
 use lib.Seq.{slice}
+use Rattle.rules.specs.Sizes.{maxItems}
 use Rattle.rules.specs.Bytes.{Text}
 use Rattle.rules.specs.Refusals.{Read, got, readThen, counting}
 use Rattle.rules.specs.Pieces.{scalarText}
@@ -33,8 +34,8 @@ pub record Asked (s : List ℕ) (at left items : ℕ) (table text : List ℕ) : 
   pub short : length s ≤ 32768
   pub inside : at ≤ length s
   pub nested : left ≤ 31
-  pub few : items ≤ 2048
-  pub table-room : 16392 ≤ length table + 8 * items
+  pub few : items ≤ maxItems
+  pub table-room : 8 * (maxItems + 1) ≤ length table + 8 * items
   pub text-room : 2 * length s ≤ length text + 2 * at
 
 -- how far a reading went, and how many items it counted
@@ -42,7 +43,7 @@ pub record Reached (s : List ℕ) (at items end n : ℕ) : Type 0 where
   pub forward : at ≤ end
   pub inside : end ≤ length s
   pub more : items ≤ n
-  pub few : n ≤ 2048
+  pub few : n ≤ maxItems
 
 -- a member with what parts it from the next
 abbrev pub partedAfter : {A : Type 0} → ℕ → List ℕ → Read A → Read A
@@ -122,7 +123,7 @@ pub record KeyedAsked (s : List ℕ) (there at left items count : ℕ) (marks ta
   pub held : HeldKeys 0 0 (key ∷ keys) text marks
   pub counted : count ≡ suc (length keys)
   pub few : count ≤ 16
-  pub items-few : items + count ≤ 2048
+  pub items-few : items + count ≤ maxItems
   pub nested : left ≤ 31
   pub deep : count ≤ left + 1
   pub short : length s ≤ 32768
@@ -130,7 +131,7 @@ pub record KeyedAsked (s : List ℕ) (there at left items count : ℕ) (marks ta
   pub inside : there ≤ length s
   pub sizes : keySizes (key ∷ keys) + at ≤ there
   pub marks-room : 34 ≤ length marks
-  pub table-room : 16392 ≤ length table + 8 * items
+  pub table-room : 8 * (maxItems + 1) ≤ length table + 8 * items
   pub text-room : 2 * length s ≤ length text + 2 * at
 
 -- the rules' field with this key, by its value
@@ -159,9 +160,9 @@ pub record PieceAsked (s : List ℕ) (at w left items : ℕ) (table text : List 
   pub short : length s ≤ 32768
   pub inside : at ≤ length s
   pub nested : left ≤ 31
-  pub few : items ≤ 2048
+  pub few : items ≤ maxItems
   pub before : w ≤ 2 * at
-  pub table-room : 16392 ≤ length table + 8 * (items + 1)
+  pub table-room : 8 * (maxItems + 1) ≤ length table + 8 * (items + 1)
   pub text-room : 2 * length s ≤ length text + w
 
 -- the item of a piece, by its numbers, with what stands inside it
@@ -201,10 +202,10 @@ pub record StepAsked (s : List ℕ) (at from used : ℕ) (run : Run) (left items
   pub inside : at ≤ length s
   pub forward : from ≤ at
   pub nested : left ≤ 31
-  pub few : items ≤ 2048
+  pub few : items ≤ maxItems
   pub before : used ≤ 2 * from
   pub counted : run .count ≤ items
-  pub table-room : 16392 ≤ length table + 8 * items
+  pub table-room : 8 * (maxItems + 1) ≤ length table + 8 * items
   pub text-room : 2 * length s ≤ length text + used
 
 -- the text of a simple piece follows what was used, with the whitespace before it, and is no longer than what was read

@@ -1,6 +1,9 @@
 // The reader of documents: any bytes to a table of items and a text part, or to the refusal that the rules of reading name. Objects,
 // arrays and values are read by functions that call each other; each is lent the part of the table and of the text part that is not used
 // yet, and what stands before it stays.
+//
+// `open` goes down with the readers: nothing before the reading place has closed the object that stands there. An array on the way from the
+// root closes it, and so does a substitution before it in its own value. What is read is the same either way, so no contract speaks of it.
 use chars::Cursor;
 use chars::DocAt;
 use chars::TextAt;
@@ -74,6 +77,7 @@ pub fn object(
     items: usize,
     table: &mut [u16],
     text: &mut [u8],
+    open: bool,
 ) -> Listed
     requires { ⌜ (closes closing ≡ true) × Asked (now s) (c .at .0) left items (now table) (now text) ⌝ }
     ensures { λ r. ⌜ ObjectIs closing (now (s .entry)) (c .at .0) left items (now (table .entry)) (now (text .entry)) (now (table .exit)) (now (text .exit)) r ⌝ }
@@ -98,7 +102,16 @@ pub fn object(
                 let p = at.at;
                 let u = 8 * (n - items);
                 let v = 2 * (p.0 - start);
-                match field(s, at, closing, left, n, &mut table[u..], &mut text[v..]) {
+                match field(
+                    s,
+                    at,
+                    closing,
+                    left,
+                    n,
+                    &mut table[u..],
+                    &mut text[v..],
+                    open,
+                ) {
                     Listed::Refused { number, place } => {
                         return Listed::Refused { number, place };
                     }
@@ -125,13 +138,13 @@ fn element(
     ensures { λ r. ⌜ ElementIs (now (s .entry)) (c .at .0) left items (now (table .entry)) (now (text .entry)) (now (table .exit)) (now (text .exit)) r ⌝ }
 {
     let place = c.at;
-    if items == 2048 {
+    if items == items::MAX_ITEMS {
         return Listed::Refused {
             number: steps::full(s, c),
             place,
         };
     }
-    let v = value(s, c, left, items + 1, &mut table[8..], text);
+    let v = value(s, c, left, items + 1, &mut table[8..], text, false);
     steps::membered(s, place, items, v, table)
 }
 
@@ -144,6 +157,7 @@ fn field(
     items: usize,
     table: &mut [u16],
     text: &mut [u8],
+    open: bool,
 ) -> Listed
     requires { ⌜ Asked (now s) (c .at .0) left items (now table) (now text) ⌝ }
     ensures { λ r. ⌜ FieldIs closing (now (s .entry)) (c .at .0) left items (now (table .entry)) (now (text .entry)) (now (table .exit)) (now (text .exit)) r ⌝ }
@@ -164,6 +178,7 @@ fn field(
                 &marks,
                 table,
                 text,
+                open,
             )
         }
     }
@@ -181,6 +196,7 @@ fn keyed(
     marks: &[usize],
     table: &mut [u16],
     text: &mut [u8],
+    open: bool,
 ) -> Listed
     requires { ⌜ KeyedAsked (now s) (c .at .0) (place .0) left items count (now marks) (now table) (now text) ⌝ }
     ensures { λ r. ⌜ KeyedIs closing (now (s .entry)) (c .at .0) (place .0) left items count (now (marks .entry)) (now (table .entry)) (now (text .entry)) (now (table .exit)) (now (text .exit)) r ⌝ }
@@ -195,6 +211,7 @@ fn keyed(
         items + count,
         &mut table[u..],
         &mut text[w..],
+        open,
     );
     steps::named(s, place, closing, items, count, marks, v, table)
 }
@@ -207,6 +224,7 @@ fn value(
     items: usize,
     table: &mut [u16],
     text: &mut [u8],
+    open: bool,
 ) -> Valued
     requires { ⌜ Asked (now s) (c .at .0) left items (now table) (now text) ⌝ }
     ensures { λ r. ⌜ ValueIs (now (s .entry)) (c .at .0) left items (now (table .entry)) (now (text .entry)) (now (table .exit)) (now (text .exit)) r ⌝ }
@@ -237,6 +255,7 @@ fn value(
             n,
             &mut table[u..],
             &mut text[v..],
+            open,
         ) {
             Step::End => {
                 return steps::finish(s, at, run, n, TextAt(start), TextAt(used));
@@ -272,6 +291,7 @@ fn step(
     items: usize,
     table: &mut [u16],
     text: &mut [u8],
+    open: bool,
 ) -> Step
     requires { ⌜ StepAsked (now s) (c .at .0) (from .0) (used .0) run left items (now table) (now text) ⌝ }
     ensures { λ r. ⌜ StepIs (now (s .entry)) (c .at .0) (from .0) (used .0) run left items (now (table .entry)) (now (text .entry)) (now (table .exit)) (now (text .exit)) r ⌝ }
@@ -287,6 +307,7 @@ fn step(
         items,
         &mut table[8..],
         &mut text[gap..],
+        open & !run.subs,
     );
     steps::placed(s, place, from, used, run, items, r, table, text)
 }
@@ -300,6 +321,7 @@ fn piece(
     items: usize,
     table: &mut [u16],
     text: &mut [u8],
+    open: bool,
 ) -> Piece
     requires { ⌜ PieceAsked (now s) (c .at .0) (w .0) left items (now table) (now text) ⌝ }
     ensures { λ r. ⌜ PieceIs (now (s .entry)) (c .at .0) (w .0) left items (now (table .entry)) (now (text .entry)) (now (table .exit)) (now (text .exit)) r ⌝ }
@@ -312,7 +334,16 @@ fn piece(
         Beginning::Object(next) => {
             let d = next.at;
             let v = 2 * d.0 - w.0;
-            let r = object(s, next, 125, left - 1, items + 1, table, &mut text[v..]);
+            let r = object(
+                s,
+                next,
+                125,
+                left - 1,
+                items + 1,
+                table,
+                &mut text[v..],
+                open,
+            );
             steps::nested(r, 7)
         }
         Beginning::Array(next) => {

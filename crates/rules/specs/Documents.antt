@@ -35,9 +35,14 @@ ofRoot (rejected x) = denied x
 ofRoot (got r at items) = let n = numbered r in limited (record { root = n; unresolved = unresolvedIn n })
 
 -- "2 over the whole input, then reading left to right"
+unfoldable pub readTree : List ℕ → ℕ → ℕ → Read Root
+unfolding illFormed readRoot
+readTree s nesting items = elim (illFormed s) [ some place ↦ rejected (placed 2 place) | none ↦ readRoot s nesting items ]
+
+-- "Nesting 32 (the root is 1)", and no items before it
 unfoldable pub readDocument : List ℕ → Input Document
-unfolding illFormed readRoot ofRoot
-readDocument s = elim (illFormed s) [ some place ↦ denied (placed 2 place) | none ↦ ofRoot (readRoot s) ]
+unfolding readTree ofRoot
+readDocument s = ofRoot (readTree s 1 0)
 
 -- A document with the environment it is read in.
 pub record Setting : Type 0 where

@@ -314,22 +314,22 @@ valueFrom (suc depth) s nesting at items =
     ]
 
 -- "Root, after whitespace and comments: `{` or `[` and its partner, then only whitespace and comments; else an object without braces,
--- possibly empty."
-unfoldable pub rootAt : List ℕ → ℕ → Read Root
+-- possibly empty." The nesting that the root opens and the count of items go in, and the count comes out.
+unfoldable pub rootAt : List ℕ → ℕ → ℕ → ℕ → Read Root
 unfolding valueFrom arrayAt objectAt
-rootAt s at =
+rootAt s nesting at items =
     let valueAt = valueFrom maxNesting s in
     elim (eqb (byteAt s at) 123) [
-      | true ↦ readThen (objectAt valueAt 125 s 1 (at + 1) 0) (λ fs end items. got (fields fs) end items)
+      | true ↦ readThen (objectAt valueAt 125 s nesting (at + 1) items) (λ fs end items₁. got (fields fs) end items₁)
       | false ↦ elim (eqb (byteAt s at) 91) [
-        | true ↦ readThen (arrayAt valueAt s 1 (at + 1) 0) (λ es end items. got (elements es) end items)
-        | false ↦ readThen (objectAt valueAt theEnd s 1 at 0) (λ fs end items. got (fields fs) end items)
+        | true ↦ readThen (arrayAt valueAt s nesting (at + 1) items) (λ es end items₁. got (elements es) end items₁)
+        | false ↦ readThen (objectAt valueAt theEnd s nesting at items) (λ fs end items₁. got (fields fs) end items₁)
       ]
     ]
 
-unfoldable pub readRoot : List ℕ → Read Root
+unfoldable pub readRoot : List ℕ → ℕ → ℕ → Read Root
 unfolding rootAt gapAt
-readRoot s =
-    readThen (rootAt s (afterGap s 0)) (λ r end items.
+readRoot s nesting items =
+    readThen (rootAt s nesting (afterGap s 0) items) (λ r end items₁.
     let last = afterGap s end in
-    elim (ltb last (length s)) [ true ↦ rejected (placed 3 last) | false ↦ got r last items ])
+    elim (ltb last (length s)) [ true ↦ rejected (placed 3 last) | false ↦ got r last items₁ ])

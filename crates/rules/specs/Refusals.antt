@@ -7,7 +7,7 @@ use lib.ListN.{length}
 
 -- The paper's numbers: when they are given, and by which definitions.
 --  1 an input over its bytes or against its rule, a part of a sheet too long: Documents.inputs, Jobs.lookUpJob
---  2 ill-formed UTF-8: Documents.readDocument, Jobs.lookUpJob
+--  2 ill-formed UTF-8: Documents.readTree, Jobs.lookUpJob
 --  3 a byte that the grammar does not allow: `notAllowed`, Reading.{parted, fieldAt, readRoot}, Paths.pathText
 --  4 the end inside something open or a field: `ended`
 --  5 `-` starting no number: Pieces.numberAt; a bad escape or lone surrogate: Strings.escapeAt; a control byte: Strings.bodyFrom

@@ -12,6 +12,7 @@ pub mod PathsEnd
 pub mod PiecesEnd
 pub mod ReadingEnds
 pub mod ValueSteps
+pub mod Rising
 pub mod FirstBytes
 -- resolving: what is needed has a number, and values end
 pub mod Numbering

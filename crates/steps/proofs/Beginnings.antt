@@ -7,6 +7,7 @@ use native.Mathlib.Omega.{arith}
 use lib.ListN.{length}
 use lib.Dec.{eqb}
 use borrow.Author.Tests.{lt-ltb, eqb-true, eqb-false}
+use Rattle.rules.specs.Sizes.{maxItems}
 use Rattle.answers.specs.Theory.Sound.{clash}
 use Rattle.rules.specs.Refusals.{placed, notAllowed, Read, rejected}
 use Rattle.rules.specs.Tree.{Node}
@@ -47,13 +48,13 @@ pub ruleset starting = (starts-nothing, starts-dollar, starts-scalar, starts-bra
 
 -- ---- the limits
 
-counted-out : {A : Type 0} (items at : ℕ) (k : ℕ → Read A) → items ≡ 2048 → counted items at k ≡ rejected (placed 8 at)
+counted-out : {A : Type 0} (items at : ℕ) (k : ℕ → Read A) → items ≡ maxItems → counted items at k ≡ rejected (placed 8 at)
 unfolding counted
 counted-out items at k e = rw e
 
-counted-in : {A : Type 0} (items at : ℕ) (k : ℕ → Read A) → items < 2048 → counted items at k ≡ k (items + 1)
+counted-in : {A : Type 0} (items at : ℕ) (k : ℕ → Read A) → items < maxItems → counted items at k ≡ k (items + 1)
 unfolding counted
-counted-in items at k l = rw (lt-ltb items 2048 l, counted)
+counted-in items at k l = rw (lt-ltb items maxItems l, counted)
 
 module _ (valueAt : ℕ → ℕ → ℕ → Read Node) (s : List ℕ) (left at items : ℕ) (e : left ≡ 0) where
   deep-brace : pieceAt valueAt s (nestingOf left) rules.brace at items ≡ rejected (placed 8 at)
@@ -64,7 +65,7 @@ module _ (valueAt : ℕ → ℕ → ℕ → Read Node) (s : List ℕ) (left at i
   unfolding pieceAt opened
   deep-bracket = rw e
 
-few : (items : ℕ) → (items ≡ 2048 → ⊥) → items ≤ 2048 → items < 2048
+few : (items : ℕ) → (items ≡ maxItems → ⊥) → items ≤ maxItems → items < maxItems
 few items n l = omega arith
 
 some-left : (left : ℕ) → eqb left 0 ≡ false → 1 ≤ left
@@ -73,7 +74,7 @@ some-left left d = let m : left ≡ 0 → ⊥ = eqb-false left 0 d in omega arit
 -- ---- what begins
 
 module _ {s : List ℕ} {left items : ℕ} {p : DocAt} {b : Bool} (h : StartsIs s (p .0) b) where
-  pub begun-crowded : items ≡ 2048 → b ≡ true → BegunIs s (p .0) left items (Beginning.Refused 8 p)
+  pub begun-crowded : items ≡ maxItems → b ≡ true → BegunIs s (p .0) left items (Beginning.Refused 8 p)
   begun-crowded z e =
       let t = h .yes e in
       record { is = (t .0, t .1, refl, refl, λ v. counted-out items (p .0) (pieceAt v s (nestingOf left) (t .0) (p .0)) z) }
@@ -86,7 +87,7 @@ module _ {s : List ℕ} {at left items : ℕ} where
     pub begun-nothing : r ≡ Start.Nothing → BegunIs s at left items Beginning.Nothing
     begun-nothing e = record { is = named h Start.Nothing e }
 
-    module _ (n : items ≡ 2048 → ⊥) (l : items ≤ 2048) where
+    module _ (n : items ≡ maxItems → ⊥) (l : items ≤ maxItems) where
       pub begun-reference : r ≡ Start.Dollar → BegunIs s at left items Beginning.Reference
       begun-reference e =
           let t : grammar.Begins s at Start.Dollar = rw e at (h .begins) in
@@ -108,7 +109,7 @@ module _ {s : List ℕ} {at left items : ℕ} where
             let t : grammar.Begins s at (Start.Bracket c) = rw e at (h .begins) in
             record { is = (named h (Start.Bracket c) e, omega arith, some-left left d, t .0, t .2) }
 
-module _ {s : List ℕ} {left items : ℕ} {p : DocAt} {r : Start} (h : StartIs s (p .0) r) (n : items ≡ 2048 → ⊥) (l : items ≤ 2048)
+module _ {s : List ℕ} {left items : ℕ} {p : DocAt} {r : Start} (h : StartIs s (p .0) r) (n : items ≡ maxItems → ⊥) (l : items ≤ maxItems)
     (d : eqb left 0 ≡ true) where
   pub begun-deep-object : {c : Cursor} → r ≡ Start.Brace c → BegunIs s (p .0) left items (Beginning.Refused 8 p)
   begun-deep-object {c} e = record {

@@ -7,6 +7,7 @@ use mathlib.Core.Option.{none, some}
 use mathlib.Core.Logic.{_⊎_}
 use lib.ListN.{length, take}
 use lib.Seq.{slice}
+use Rattle.rules.specs.Sizes.{maxItems}
 use Rattle.rules.specs.Bytes.{byteAt}
 use Rattle.rules.specs.Refusals.{Refusal, placed, numberOf, placeOf, notAllowed, Scan, ok, fail, Read, got, rejected}
 use Rattle.rules.specs.Pieces.{Token, startsSimple, simpleAt, scalarText}
@@ -48,12 +49,12 @@ pub record StartsIs (s : List ℕ) (at : ℕ) (r : Bool) : Type 0 where
 
 abbrev pub Begins : List ℕ → ℕ → ℕ → ℕ → Beginning → Type 0
 Begins s at left items (Beginning.Object c) =
-    (startOf s at ≡ some brace) × (items < 2048) × (1 ≤ left) × (at < length s) × (c .at .0 ≡ at + 1)
+    (startOf s at ≡ some brace) × (items < maxItems) × (1 ≤ left) × (at < length s) × (c .at .0 ≡ at + 1)
 Begins s at left items (Beginning.Array c) =
-    (startOf s at ≡ some bracket) × (items < 2048) × (1 ≤ left) × (at < length s) × (c .at .0 ≡ at + 1)
+    (startOf s at ≡ some bracket) × (items < maxItems) × (1 ≤ left) × (at < length s) × (c .at .0 ≡ at + 1)
 Begins s at left items Beginning.Reference =
-    (startOf s at ≡ some dollar) × (items < 2048) × (at + 1 < length s) × (byteAt s at ≡ 36) × (byteAt s (at + 1) ≡ 123)
-Begins s at left items Beginning.Scalar = (startOf s at ≡ some scalar) × (items < 2048) × (at < length s) × (startsSimple s at ≡ true)
+    (startOf s at ≡ some dollar) × (items < maxItems) × (at + 1 < length s) × (byteAt s at ≡ 36) × (byteAt s (at + 1) ≡ 123)
+Begins s at left items Beginning.Scalar = (startOf s at ≡ some scalar) × (items < maxItems) × (at < length s) × (startsSimple s at ≡ true)
 Begins s at left items Beginning.Nothing = startOf s at ≡ none
 Begins s at left items (Beginning.Refused k p) =
     (start : Start) × (startOf s at ≡ some start) × (k ≡ 8) × (p .0 ≡ at)
@@ -75,7 +76,7 @@ pub record BehindIs (closing : ℕ) (s : List ℕ) (at items : ℕ) (r : Listed)
 -- an element where there may be no further item
 pub record FullIs (s : List ℕ) (at r : ℕ) : Type 0 where
   pub why : Refusal
-  pub is : (valueAt : ℕ → ℕ → ℕ → Read Node) (nesting : ℕ) → elementAt valueAt s nesting at 2048 ≡ rejected why
+  pub is : (valueAt : ℕ → ℕ → ℕ → Read Node) (nesting : ℕ) → elementAt valueAt s nesting at maxItems ≡ rejected why
   pub number : r ≡ numberOf why
   pub place : at ≡ placeOf why
 
@@ -104,7 +105,7 @@ pub record PlainAsked (s : List ℕ) (at items : ℕ) (text : List ℕ) : Type 0
   pub short : length s ≤ 32768
   pub inside : at < length s
   pub begins : startsSimple s at ≡ true
-  pub few : items < 2048
+  pub few : items < maxItems
   pub room : length s ≤ length text + at
 
 abbrev pub Plain : List ℕ → ℕ → ℕ → ℕ → List ℕ → Piece → Type 0
@@ -124,7 +125,7 @@ pub record LinkedAsked (s : List ℕ) (at items : ℕ) (text : List ℕ) : Type 
   pub inside : at + 1 < length s
   pub first : byteAt s at ≡ 36
   pub second : byteAt s (at + 1) ≡ 123
-  pub few : items < 2048
+  pub few : items < maxItems
   pub room : 2 * length s ≤ length text + 2 * at
 
 abbrev pub Linked : List ℕ → ℕ → ℕ → ℕ → List ℕ → Piece → Type 0
@@ -169,7 +170,7 @@ pub record PutPieceAsked (s : List ℕ) (place from used items : ℕ) (f : Found
   pub inside : place ≤ length s
   pub forward : from ≤ place
   pub more : items ≤ f .items
-  pub few : f .items ≤ 2048
+  pub few : f .items ≤ maxItems
   pub kind : f .kind ≤ 10
   pub key : used < 65536
   pub at : f .text .0 < 65536

@@ -13,6 +13,7 @@ use values::Run;
 ghost use mathlib.Core.Path.{_≡_};
 ghost use Prim.Native.Nat.{_≤_};
 ghost use lib.ListN.{length};
+ghost use Rattle.rules.specs.Sizes.{maxItems};
 ghost use Rattle.items.specs.Codes.{referenceCode};
 ghost use Rattle.steps.specs.Decisions.{StartsIs, BegunIs, BehindIs, FullIs, FinishAsked, FinishIs, PlainAsked, PlainIs, LinkedAsked, LinkedIs, NestedIs, PutPieceAsked, PutPieceIs, MoreAsked, MoreIs, PlacedAsked, PlacedIs, NamedAsked, NamedIs, ListedAsked, ListedIs};
 
@@ -95,12 +96,12 @@ pub enum Beginning {
 }
 
 pub fn begun(s: &[u8], c: Cursor, left: usize, items: usize) -> Beginning
-    requires { ⌜ (length (now s) ≤ 32768) × (c .at .0 ≤ length (now s)) × (left ≤ 31) × (items ≤ 2048) ⌝ }
+    requires { ⌜ (length (now s) ≤ 32768) × (c .at .0 ≤ length (now s)) × (left ≤ 31) × (items ≤ maxItems) ⌝ }
     ensures { λ r. ⌜ BegunIs (now (s .entry)) (c .at .0) left items r ⌝ }
 {
     let place = c.at;
     let deepest = left == 0;
-    if items == 2048 {
+    if items == items::MAX_ITEMS {
         if starts_piece(s, c) {
             return Beginning::Refused { number: 8, place };
         }

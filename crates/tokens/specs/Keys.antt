@@ -5,6 +5,7 @@ use mathlib.Core.Bool.{Bool, true}
 use mathlib.Core.List.{List, [], _∷_}
 use mathlib.Core.Option.{none}
 use lib.ListN.{length}
+use Rattle.rules.specs.Sizes.{maxItems}
 use Rattle.rules.specs.Refusals.{Refusal, placed, numberOf, placeOf, ok, Read, got, rejected, readThen, counting}
 use Rattle.rules.specs.Tree.{Key, Node}
 use Rattle.rules.specs.Paths.{segmentsAt, Element, elementsOf, anyEmpty, judge}
@@ -94,14 +95,14 @@ pub record KeyAsked (s : List ℕ) (at left items : ℕ) (text marks : List ℕ)
   pub short : length s ≤ 32768
   pub inside : at ≤ length s
   pub deep : left ≤ 31
-  pub many : items ≤ 2048
+  pub many : items ≤ maxItems
   pub room : length s ≤ length text + at
   pub marks-room : 34 ≤ length marks
 
 -- the keys and the place of the value, with which the rules' field goes on; or its refusal
 abbrev pub Keys : List ℕ → ℕ → ℕ → ℕ → List ℕ → List ℕ → KeyRead → Type 0
 Keys s left at items text marks (KeyRead.Done n c) =
-    (k : Key) × (ks : List Key) × (n ≡ suc (length ks)) × (n ≤ 16) × (items + n ≤ 2048) × (n ≤ left + 1)
+    (k : Key) × (ks : List Key) × (n ≡ suc (length ks)) × (n ≤ 16) × (items + n ≤ maxItems) × (n ≤ left + 1)
     × (at < c .at .0) × (c .at .0 ≤ length s)
     × HeldKeys 0 0 (k ∷ ks) text marks × (keySizes (k ∷ ks) + at ≤ c .at .0)
     × ((valueAt : ℕ → ℕ → ℕ → Read Node) → fieldAt valueAt s (32 - left) at items

@@ -7,6 +7,7 @@ use paths::Joined;
 use paths::Verdict;
 use paths::pieces::Piece;
 ghost use Prim.Native.Nat.{_≤_};
+ghost use Rattle.rules.specs.Sizes.{maxItems};
 ghost use Rattle.paths.specs.Tokens.{PieceAsked};
 ghost use Rattle.paths.specs.Whole.{ElementsAsked};
 ghost use Rattle.tokens.specs.Scalars.{WrittenAsked, WrittenIs, ScalarIs};
@@ -210,10 +211,10 @@ pub enum KeyRead {
 
 // How many elements a key may have: each is an item, and each after the first opens a nesting.
 fn allowed_keys(left: usize, items: usize) -> usize
-    requires { ⌜ (left ≤ 31) × (items ≤ 2048) ⌝ }
+    requires { ⌜ (left ≤ 31) × (items ≤ maxItems) ⌝ }
     ensures { λ r. ⌜ AllowedIs left items r ⌝ }
 {
-    let rest = 2048 - items;
+    let rest = items::MAX_ITEMS - items;
     let deep = left + 1;
     if rest < deep {
         if rest < 16 {

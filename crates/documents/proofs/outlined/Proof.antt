@@ -18,8 +18,11 @@ gap-at-requires c κs = search outlines
 returns : tie.Need-returns
 returns c = search outlines
 
-add-t14 : tie.Need-add-t14
-add-t14 c = search outlines
+sub-t15 : tie.Need-sub-t15
+sub-t15 c = search outlines
+
+add-t17 : tie.Need-add-t17
+add-t17 c = search outlines
 
 put-item-requires : tie.Need-put-item-requires
 put-item-requires c κs = search outlines
@@ -41,7 +44,8 @@ outlined-spec =
     enum-known-r-2
     gap-at-requires
     returns
-    add-t14
+    sub-t15
+    add-t17
     put-item-requires
     returns-2
     same-length

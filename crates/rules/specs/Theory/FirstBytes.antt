@@ -2,7 +2,7 @@
 -- what is read from a place up to an end has its unresolved values there, and what is read next has its own behind them.
 use mathlib.Core.Path.{_≡_, refl}
 use Prim.Native.Nat.{ℕ, zero, suc, _+_, _≤_, _<_}
-use mathlib.Core.List.{List, [], _∷_, _++_, map, map-append, append-assoc}
+use mathlib.Core.List.{List, [], _∷_, _++_, map, append-assoc}
 use mathlib.Core.Bool.{Bool, true, false}
 use mathlib.Core.Option.{Option, none, some}
 use native.Mathlib.Omega.{arith}
@@ -15,10 +15,10 @@ use Rattle.rules.specs.Refusals.{Refusal, Scan, ok, fail, Read, got, rej
 use Rattle.rules.specs.Utf8.{illFormed}
 use Rattle.rules.specs.Characters.{afterInline, afterGap}
 use Rattle.rules.specs.Paths.{startsInclude, segmentsAt, Element, elementsOf, judge, judged, keysOf, braced, substitutionAt}
-use Rattle.rules.specs.Tree.{Scalar, Key, Substitution, Node, simple, array, object, unresolved, Elements, no-elements, element, Fields, no-fields, field, Pieces, no-pieces, literal, substituted, Root, fields, elements, firstPlace, joinElements, joinFields, numberNode, numberElements, numberFields, numberPieces, numbered}
+use Rattle.rules.specs.Tree.{Scalar, Key, Substitution, Node, simple, array, object, unresolved, Elements, no-elements, element, Fields, no-fields, field, Pieces, no-pieces, literal, substituted, Root, fields, elements, joinElements, joinFields, numbered}
 use Rattle.rules.specs.Reading.{Start, brace, bracket, dollar, scalar, startOf, Part, node, substitution, withPart, counted, piecesFrom, hasSubstitution, unlike, kindOf, elementsJoined, fieldsJoined, simpleJoined, joined, judgeValue, theEnd, membersFrom, membersAt, FieldRead, inside, fieldsOf, elementsFrom, allowedKeys, opened, fieldWith, fieldJudged, fieldAt, elementAt, arrayAt, objectAt, pieceAt, valueFrom, rootAt, readRoot}
-use Rattle.rules.specs.Unresolved.{Unresolved, Scope, fieldScope, withField, inNode, inElements, inFields, inPieces, unresolvedIn}
-use Rattle.rules.specs.Documents.{Document, Input, given, denied, limited, ofRoot, readDocument}
+use Rattle.rules.specs.Unresolved.{unresolvedIn}
+use Rattle.rules.specs.Documents.{Document, Input, given, denied, limited, ofRoot, readTree, readDocument}
 use Rattle.rules.specs.Theory.Choices.{by-test, by-option, by-list}
 use Rattle.rules.specs.Theory.Places.{inline-reached, gap-reached}
 use Rattle.rules.specs.Theory.Scanning.{Scans, oks, fails, From, simple-scans}
@@ -26,117 +26,7 @@ use Rattle.rules.specs.Theory.Lengths.{IfRead, read, unread, ends, then-
 use Rattle.rules.specs.Theory.PathsEnd.{segments-scans, substitution-scans}
 use Rattle.rules.specs.Theory.PiecesEnd.{Some, begun, closing-forward, parted-scans}
 use Rattle.rules.specs.Theory.ReadingEnds.{place-scans}
-
--- ---- places that rise strictly, from a place on and before an end
-
-abbrev pub Ordered : ℕ → ℕ → List ℕ → Type 0
-Ordered from end [] = from ≤ end
-Ordered from end (x ∷ xs) = (from ≤ x) × Ordered (suc x) end xs
-
-ordered-from : (p q end : ℕ) (xs : List ℕ) → p ≤ q → Ordered q end xs → Ordered p end xs
-ordered-from p q end [] h k = omega arith
-ordered-from p q end (x ∷ xs) h k = (omega (arith, k .0), k .1)
-
-ordered-to : (from p q : ℕ) (xs : List ℕ) → p ≤ q → Ordered from p xs → Ordered from q xs
-ordered-to from p q [] h k = omega arith
-ordered-to from p q (x ∷ xs) h k = (k .0, ordered-to (suc x) p q xs h (k .1))
-
-ordered-forward : (from end : ℕ) (xs : List ℕ) → Ordered from end xs → from ≤ end
-ordered-forward from end [] k = k
-ordered-forward from end (x ∷ xs) k = omega (arith, k .0, ordered-forward (suc x) end xs (k .1))
-
-ordered-append : (from mid end : ℕ) (xs ys : List ℕ) → Ordered from mid xs → Ordered mid end ys → Ordered from end (xs ++ ys)
-ordered-append from mid end [] ys h k = ordered-from from mid end ys h k
-ordered-append from mid end (x ∷ xs) ys h k = (h .0, ordered-append (suc x) mid end xs ys (h .1) k)
-
--- each less than the next
-abbrev pub Rising : List ℕ → Type 0
-Rising [] = Unit {0}
-Rising (x ∷ []) = Unit {0}
-Rising (x ∷ (y ∷ xs)) = (x < y) × Rising (y ∷ xs)
-
-ordered-rises : (from end : ℕ) (xs : List ℕ) → Ordered from end xs → Rising xs
-ordered-rises from end [] h = tt
-ordered-rises from end (x ∷ []) h = tt
-ordered-rises from end (x ∷ (y ∷ xs)) h = (h .1 .0, ordered-rises (suc x) end (y ∷ xs) (h .1))
-
--- ---- the first bytes of the unresolved values of a node, in preorder
-
-unfoldable mutual
-  pub placesNode : Node → List ℕ
-  placesNode (simple x) = []
-  placesNode (array es) = placesElements es
-  placesNode (object fs) = placesFields fs
-  placesNode (unresolved b ps) = firstPlace ps ∷ placesPieces ps
-
-  pub placesElements : Elements → List ℕ
-  placesElements no-elements = []
-  placesElements (element n es) = placesNode n ++ placesElements es
-
-  pub placesFields : Fields → List ℕ
-  placesFields no-fields = []
-  placesFields (field k n fs) = placesNode n ++ placesFields fs
-
-  pub placesPieces : Pieces → List ℕ
-  placesPieces no-pieces = []
-  placesPieces (literal place gap n ps) = placesNode n ++ placesPieces ps
-  placesPieces (substituted gap x ps) = placesPieces ps
-
-unfoldable pub placesRoot : Root → List ℕ
-unfolding placesNode
-placesRoot (fields fs) = placesFields fs
-placesRoot (elements es) = placesElements es
-
--- ---- the list of a document's unresolved values has these places: numbering changes none
-
-record StandAt (us : List Unresolved) (ps : List ℕ) : Type 0 where
-  pub places : map (λ u. u .place) us ≡ ps
-
-first-place : (b : ℕ) (ps : Pieces) → firstPlace (numberPieces b ps .0) ≡ firstPlace ps
-unfolding numberNode
-first-place b no-pieces = refl
-first-place b (literal place gap n ps) = refl
-first-place b (substituted gap x ps) = refl
-
-stand-none : StandAt [] []
-stand-none = record { places = refl }
-
-stand-both : {xs ys : List Unresolved} {p q : List ℕ} → StandAt xs p → StandAt ys q → StandAt (xs ++ ys) (p ++ q)
-stand-both {xs} {ys} h k = record { places = cc (map-append (λ (u : Unresolved). u .place) xs ys, h .places, k .places) }
-
-stand-first : (scope : Scope) (b : ℕ) (ps : Pieces) {us : List Unresolved} {xs : List ℕ} → StandAt us xs
-    → StandAt (record { place = firstPlace (numberPieces b ps .0); pieces = numberPieces b ps .0; home = scope } ∷ us) (firstPlace ps ∷ xs)
-stand-first scope b ps h = record { places = cc (first-place b ps, h .places) }
-
-mutual
-  unfolding numberNode inNode placesNode
-
-  listed-node : (b : ℕ) (n : Node) (scope : Scope) → StandAt (inNode scope (numberNode b n .0)) (placesNode n)
-  listed-node b (simple x) scope = stand-none
-  listed-node b (array es) scope = listed-elements b es
-  listed-node b (object fs) scope = listed-fields b fs scope no-fields
-  listed-node b (unresolved _ ps) scope = stand-first scope (suc b) ps (listed-pieces (suc b) ps)
-
-  listed-elements : (b : ℕ) (es : Elements) → StandAt (inElements (numberElements b es .0)) (placesElements es)
-  listed-elements b no-elements = stand-none
-  listed-elements b (element n es) = stand-both (listed-node b n none) (listed-elements (numberNode b n .1) es)
-
-  listed-fields : (b : ℕ) (fs : Fields) (scope : Scope) (earlier : Fields)
-      → StandAt (inFields (numberFields b fs .0) scope earlier) (placesFields fs)
-  listed-fields b no-fields scope earlier = stand-none
-  listed-fields b (field k n fs) scope earlier =
-      let (n′, c) = numberNode b n in
-      stand-both (listed-node b n (fieldScope scope earlier k)) (listed-fields c fs scope (withField earlier k n′))
-
-  listed-pieces : (b : ℕ) (ps : Pieces) → StandAt (inPieces (numberPieces b ps .0)) (placesPieces ps)
-  listed-pieces b no-pieces = stand-none
-  listed-pieces b (literal place gap n ps) = stand-both (listed-node b n none) (listed-pieces (numberNode b n .1) ps)
-  listed-pieces b (substituted gap x ps) = listed-pieces b ps
-
-listed-root : (r : Root) → StandAt (unresolvedIn (numbered r)) (placesRoot r)
-unfolding numberNode unresolvedIn placesRoot
-listed-root (fields fs) = listed-fields 0 fs _ no-fields
-listed-root (elements es) = listed-elements 0 es
+use Rattle.rules.specs.Theory.Rising.{Ordered, ordered-from, ordered-to, ordered-forward, ordered-append, Rising, ordered-rises, placesNode, placesElements, placesFields, placesPieces, placesRoot, listed-root}
 
 -- ---- what is read, if anything is, has Q
 
@@ -491,33 +381,33 @@ module _ (s : List ℕ) where
   unfolding placesRoot
   Roots at r end = Ordered at end (placesRoot r)
 
-  root-ordered : (at : ℕ) → IfGot (Roots at) (rootAt s at)
+  root-ordered : (nesting at items : ℕ) → IfGot (Roots at) (rootAt s nesting at items)
   unfolding rootAt Roots
-  root-ordered at =
+  root-ordered nesting at items₀ =
       let valueAt = valueFrom maxNesting s in
       let values : (inner place items : ℕ) → IfGot (Values place) (valueAt inner place items) = λ m p i. value-ordered maxNesting m p i in
       by-test (IfGot (Roots at)) (eqb (byteAt s at) 123)
-      (λ e. then-got (object-ordered valueAt values 1 125 (at + 1) 0) (λ fs end items h.
+      (λ e. then-got (object-ordered valueAt values nesting 125 (at + 1) items₀) (λ fs end items h.
       gives (ordered-from at (at + 1) end (placesFields fs) (omega arith) h)))
       (λ e. by-test (IfGot (Roots at)) (eqb (byteAt s at) 91)
-      (λ f. then-got (array-ordered valueAt values 1 (at + 1) 0) (λ es end items h.
+      (λ f. then-got (array-ordered valueAt values nesting (at + 1) items₀) (λ es end items h.
       gives (ordered-from at (at + 1) end (placesElements es) (omega arith) h)))
-      (λ f. then-got (object-ordered valueAt values 1 theEnd at 0) (λ fs end items h. gives h)))
+      (λ f. then-got (object-ordered valueAt values nesting theEnd at items₀) (λ fs end items h. gives h)))
 
-  document-ordered : IfGot (Roots 0) (readRoot s)
+  document-ordered : (nesting items : ℕ) → IfGot (Roots 0) (readRoot s nesting items)
   unfolding readRoot Roots
-  document-ordered =
-      then-got (root-ordered (afterGap s 0)) (λ r end items h.
+  document-ordered nesting items₀ =
+      then-got (root-ordered nesting (afterGap s 0) items₀) (λ r end items h.
       let last = afterGap s end in
       by-test (IfGot (Roots 0)) (ltb last (length s)) (λ e. not-got) (λ e.
       gives (ordered-from 0 (afterGap s 0) last (placesRoot r) (omega arith)
       (ordered-to (afterGap s 0) end last (placesRoot r) (gap-reached s end .forward) h))))
 
 -- of a root that is read the first bytes rise, and all are before its end
-pub root-order : (s : List ℕ) (r : Root) (end items : ℕ) → readRoot s ≡ got r end items
+pub root-order : (s : List ℕ) (nesting items₀ : ℕ) (r : Root) (end items : ℕ) → readRoot s nesting items₀ ≡ got r end items
     → Ordered 0 end (map (λ u. u .place) (unresolvedIn (numbered r)))
 unfolding Roots
-root-order s r end items e = rw (listed-root r .places) (of-got (rw e at (document-ordered s)))
+root-order s nesting items₀ r end items e = rw (listed-root r .places) (of-got (rw e at (document-ordered s nesting items₀)))
 
 -- ---- documents
 
@@ -539,11 +429,11 @@ root-given (got r at items) f =
     by-option (IfGiven Sorted) (getElem? (unresolvedIn (numbered r)) maxUnresolved) (λ e. is-given (f r at items refl)) (λ u e. not-given)
 
 document-given : (s : List ℕ) → IfGiven Sorted (readDocument s)
-unfolding readDocument
+unfolding readDocument readTree ofRoot
 document-given s =
-    by-option (IfGiven Sorted) (illFormed s)
-    (λ e. root-given (readRoot s) (λ r end items f.
-    ordered-rises 0 end (map (λ u. u .place) (unresolvedIn (numbered r))) (root-order s r end items f))) (λ place e. not-given)
+    by-option (λ m. IfGiven Sorted (ofRoot m)) (illFormed s)
+    (λ e. root-given (readRoot s 1 0) (λ r end items f.
+    ordered-rises 0 end (map (λ u. u .place) (unresolvedIn (numbered r))) (root-order s 1 0 r end items f))) (λ place e. not-given)
 
 pub first-byte-order : (s : List ℕ) (d : Document) → readDocument s ≡ given d → Rising (map (λ u. u .place) (d .unresolved))
 first-byte-order s d e = of-given (rw e at (document-given s))

@@ -14,10 +14,9 @@ use Rattle.rules.specs.Refusals.{placed, nowhere, Read, got, rejected}
 use Rattle.rules.specs.Utf8.{illFormed}
 use Rattle.rules.specs.Environment.{Environment, Entry, entriesOf, textOf}
 use Rattle.rules.specs.Tree.{Node, simple, array, object, unresolved, Elements, no-elements, element, Fields, no-fields, field, Pieces, no-pieces, literal, substituted, Root, fields, elements, rootNode, numberNode, numberElements, numberFields, numberPieces, numbered, firstPlace}
-use Rattle.rules.specs.Reading.{readRoot}
 use Rattle.rules.specs.Layers.{end}
 use Rattle.rules.specs.Unresolved.{Unresolved, Scope, fieldScope, withField, inNode, inElements, inFields, inPieces, unresolvedIn}
-use Rattle.rules.specs.Documents.{Document, Setting, Input, given, denied, ofRoot, readDocument, withEnvironment, inputs}
+use Rattle.rules.specs.Documents.{Document, Setting, Input, given, denied, ofRoot, readTree, readDocument, withEnvironment, inputs}
 use Rattle.rules.specs.Theory.Choices.{getElem-length, getElem-none}
 
 -- ---- Q of every unresolved value in a node, by its number and its pieces; of those inside its pieces too
@@ -205,12 +204,7 @@ gives-root (got r place items) = go (getElem? (d .unresolved) 256) refl
 
 gives-document : (s : List ℕ) → Gives Prepared (readDocument s)
 unfolding readDocument
-gives-document s = go (illFormed s)
-  where
-    go : (o : Option ℕ)
-        → Gives Prepared (elim o as (λ _. Input Document) [ some place ↦ denied (placed 2 place) | none ↦ ofRoot (readRoot s) ])
-    go (some place) = tt
-    go none = gives-root (readRoot s)
+gives-document s = gives-root (readTree s 1 0)
 
 gives-setting : (env : Environment) (i : Input Document) → Gives Prepared i
     → Gives {A = Setting} (λ x. Prepared (x .document)) (withEnvironment env i)

@@ -19,7 +19,7 @@ use Rattle.rules.specs.Paths.{startsInclude, Element, elementsOf, keysOf
 use Rattle.rules.specs.Tree.{Key, Node, array, object, Root, numbered}
 use Rattle.rules.specs.Reading.{Start, brace, bracket, dollar, scalar, startOf, node, theEnd, valuePlace, allowedKeys, fieldWith, fieldJudged, fieldAt, elementAt, arrayAt, objectAt, pieceAt, valueFrom, rootAt, readRoot}
 use Rattle.rules.specs.Unresolved.{unresolvedIn}
-use Rattle.rules.specs.Documents.{Document, Input, given, denied, limited, ofRoot, readDocument, withEnvironment, inputs}
+use Rattle.rules.specs.Documents.{Document, Input, given, denied, limited, ofRoot, readTree, readDocument, withEnvironment, inputs}
 use Rattle.rules.specs.Theory.Choices.{by-test, by-option, by-list}
 use Rattle.rules.specs.Theory.Places.{gap-reached}
 use Rattle.rules.specs.Theory.Scanning.{Among, among-some, readingNumbers, Scans, fails, From, to, simple-scans}
@@ -111,29 +111,30 @@ module _ (s : List ℕ) where
       let (some-piece, forward) = m .1 start b in
       judge-reads ps end items₁ some-piece forward))
 
-  root-reads : (at : ℕ) → Reads (From at) (rootAt s at)
+  root-reads : (nesting at items : ℕ) → 1 ≤ nesting → nesting ≤ maxNesting → Reads (From at) (rootAt s nesting at items)
   unfolding rootAt
-  root-reads at =
+  root-reads nesting at items₀ one nested =
       let valueAt = valueFrom maxNesting s in
-      let values : (inner place items : ℕ) → 1 ≤ inner → inner ≤ maxNesting → Reads (From (suc place)) (valueAt inner place items) =
+      let values : (inner place items : ℕ) → nesting ≤ inner → inner ≤ maxNesting → Reads (From (suc place)) (valueAt inner place items) =
       λ m p i k l. value-reads maxNesting m p i (omega arith) l in
       by-test (Reads (From at)) (eqb (byteAt s at) 123)
-      (λ e. then-reads (object-reads valueAt 1 values 125 (at + 1) 0) (λ fs end items h. at-end (omega arith)))
+      (λ e. then-reads (object-reads valueAt nesting values 125 (at + 1) items₀) (λ fs end items h. at-end (omega arith)))
       (λ e. by-test (Reads (From at)) (eqb (byteAt s at) 91)
-      (λ f. then-reads (array-reads valueAt 1 values (omega arith) (at + 1) 0) (λ es end items h. at-end (omega arith)))
-      (λ f. then-reads (object-reads valueAt 1 values theEnd at 0) (λ fs end items h. at-end h)))
+      (λ f. then-reads (array-reads valueAt nesting values nested (at + 1) items₀) (λ es end items h. at-end (omega arith)))
+      (λ f. then-reads (object-reads valueAt nesting values theEnd at items₀) (λ fs end items h. at-end h)))
 
-  pub document-reads : Reads (From 0) (readRoot s)
+  pub document-reads : (nesting items : ℕ) → 1 ≤ nesting → nesting ≤ maxNesting → Reads (From 0) (readRoot s nesting items)
   unfolding readRoot
-  document-reads =
-      then-reads (root-reads (afterGap s 0)) (λ r end items h.
+  document-reads nesting items₀ one nested =
+      then-reads (root-reads nesting (afterGap s 0) items₀ one nested) (λ r end items h.
       by-test (Reads (From 0)) (ltb (afterGap s end) (length s)) (λ e. rejects refl) (λ e. at-end (omega arith)))
 
-pub reading-numbers : (s : List ℕ) (x : Refusal) → readRoot s ≡ rejected x → Among readingNumbers x
-reading-numbers s x e = of-rejected (rw e at (document-reads s))
+module _ (s : List ℕ) (nesting items : ℕ) (one : 1 ≤ nesting) (nested : nesting ≤ maxNesting) (x : Refusal) (e : readRoot s nesting items ≡ rejected x) where
+  pub reading-numbers : Among readingNumbers x
+  reading-numbers = of-rejected (rw e at (document-reads s nesting items one nested))
 
-pub reading-ends : (s : List ℕ) (x : Refusal) → readRoot s ≡ rejected x → 1 ≤ numberOf x
-reading-ends s x e = among-some readingNumbers refl x (reading-numbers s x e)
+  pub reading-ends : 1 ≤ numberOf x
+  reading-ends = among-some readingNumbers refl x reading-numbers
 
 -- ---- documents and inputs
 
@@ -159,9 +160,10 @@ root-denies (gots {a} h) = let n = numbered a in limited-denies (record { root =
 root-denies (rejects h) = denies h
 
 document-denies : (s : List ℕ) → Denies (2 ∷ readingNumbers) (readDocument s)
-unfolding readDocument
+unfolding readDocument readTree ofRoot
 document-denies s =
-    by-option (Denies (2 ∷ readingNumbers)) (illFormed s) (λ e. more-denies 2 (root-denies (document-reads s))) (λ place e. denies refl)
+    by-option (λ m. Denies (2 ∷ readingNumbers) (ofRoot m)) (illFormed s)
+    (λ e. more-denies 2 (root-denies (document-reads s 1 0 (omega arith) (omega arith)))) (λ place e. denies refl)
 
 environment-denies : (env : Environment) {ns : List ℕ} {m : Input Document} → Denies ns m → Denies ns (withEnvironment env m)
 environment-denies env gives = gives

@@ -13,11 +13,11 @@ use lib.ListN.{length}
 -- what is left to show, a declaration for each need
 
 abbrev pub object-Inv-loop : object-lts.InvT-loop
-object-Inv-loop s closing left items table₀ text₀ start at₀ n₀ table text at n =
+object-Inv-loop s closing left items table₀ text₀ opened start at₀ n₀ table text at n =
     Inv (objectLike closing) s start left items table₀ text₀ (at .at .0) n table text
 
 abbrev pub object-μ-loop : object-lts.MeasureT-loop
-object-μ-loop s closing left items table₀ text₀ start at₀ n₀ table text at n = length s - at .at .0
+object-μ-loop s closing left items table₀ text₀ opened start at₀ n₀ table text at n = length s - at .at .0
 
 pub object-gap-at-requires : (t : ℕ) → object-lts.Need-gap-at-requires (object-k t) (object-at t) object.Post object-Inv-loop object-μ-loop
 object-gap-at-requires t c κs = search needs

@@ -12,11 +12,11 @@ use lib.ListN.{length}
 -- what is left to show, a declaration for each need
 
 abbrev pub value-Inv-loop : value-lts.InvT-loop
-value-Inv-loop s left items table₀ text₀ start at₀ from₀ n₀ used₀ run₀ table text at from n used run =
+value-Inv-loop s left items table₀ text₀ opened start at₀ from₀ n₀ used₀ run₀ table text at from n used run =
     Inv s (at₀ .at .0) left items table₀ text₀ (at .at .0) (from .0) n used run table text
 
 abbrev pub value-μ-loop : value-lts.MeasureT-loop
-value-μ-loop s left items table₀ text₀ start at₀ from₀ n₀ used₀ run₀ table text at from n used run = length s - at .at .0
+value-μ-loop s left items table₀ text₀ opened start at₀ from₀ n₀ used₀ run₀ table text at from n used run = length s - at .at .0
 
 pub value-mul-start : (t : ℕ) → value-lts.Need-mul-start (value-k t) (value-at t) value.Post value-Inv-loop value-μ-loop
 value-mul-start t c = search needs
