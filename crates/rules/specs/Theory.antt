@@ -20,6 +20,7 @@ pub mod Ends
 pub mod Reach
 pub mod Rules
 pub mod Resolving
+pub mod Settled
 -- the sheet: its layout, read back; what is accepted
 pub mod Layout
 pub mod Entries
