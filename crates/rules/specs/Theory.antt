@@ -21,6 +21,9 @@ pub mod Reach
 pub mod Rules
 pub mod Resolving
 pub mod Settled
+pub mod Heights
+pub mod Depths
+pub mod SettledAnswers
 -- the sheet: its layout, read back; what is accepted
 pub mod Layout
 pub mod Entries
@@ -38,9 +41,16 @@ pub mod LookUps
 pub mod LaidOut
 pub mod NamedValues
 pub mod SheetLookUps
+pub mod TrailAnswers
 -- the jobs: resolve and check held against each other
 pub mod Jobs
 pub mod BothJobs
 pub mod Buffers
 pub mod Reordered
 pub mod Counts
+-- finished values: no key stands twice, and merged objects are what their layers give
+pub mod DistinctKeys
+pub mod DistinctAnswers
+pub mod MergedValues
+-- how much room layers and keys take on one stack
+pub mod Room

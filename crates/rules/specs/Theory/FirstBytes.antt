@@ -30,17 +30,17 @@ use Rattle.rules.specs.Theory.Rising.{Ordered, ordered-from, ordered-to,
 
 -- ---- what is read, if anything is, has Q
 
-data IfGot {A : Type 0} (Q : A → ℕ → Type 0) : Read A → Type 0 where
+pub data IfGot {A : Type 0} (Q : A → ℕ → Type 0) : Read A → Type 0 where
   is-got : {a : A} {end items : ℕ} → Q a end → IfGot Q (got a end items)
   not-got : {x : Refusal} → IfGot Q (rejected x)
 
-gives : {A : Type 0} {Q : A → ℕ → Type 0} {a : A} {end items : ℕ} → Q a end → IfGot Q (got a end items)
+pub gives : {A : Type 0} {Q : A → ℕ → Type 0} {a : A} {end items : ℕ} → Q a end → IfGot Q (got a end items)
 gives h = is-got h
 
-of-got : {A : Type 0} {Q : A → ℕ → Type 0} {a : A} {end items : ℕ} → IfGot Q (got a end items) → Q a end
+pub of-got : {A : Type 0} {Q : A → ℕ → Type 0} {a : A} {end items : ℕ} → IfGot Q (got a end items) → Q a end
 of-got (is-got h) = h
 
-then-got : {A B : Type 0} {P : A → ℕ → Type 0} {Q : B → ℕ → Type 0} {m : Read A} {k : A → ℕ → ℕ → Read B}
+pub then-got : {A B : Type 0} {P : A → ℕ → Type 0} {Q : B → ℕ → Type 0} {m : Read A} {k : A → ℕ → ℕ → Read B}
     → IfGot P m → ((a : A) (end items : ℕ) → P a end → IfGot Q (k a end items)) → IfGot Q (readThen m k)
 then-got (is-got h) f = f _ _ _ h
 then-got not-got f = not-got
@@ -54,7 +54,7 @@ counting-got items (oks h) = is-got h
 counting-got items (fails h) = not-got
 
 module _ {A : Type 0} {Q : A → ℕ → Type 0} (n at : ℕ) (k : ℕ → Read A) (h : (m : ℕ) → IfGot Q (k m)) where
-  counted-got : IfGot Q (counted n at k)
+  pub counted-got : IfGot Q (counted n at k)
   unfolding counted
   counted-got = by-test (IfGot Q) (ltb n maxItems) (λ e. h (n + 1)) (λ e. not-got)
 
@@ -414,11 +414,11 @@ root-order s nesting items₀ r end items e = rw (listed-root r .places) (of-got
 abbrev Sorted : Document → Type 0
 Sorted d = Rising (map (λ u. u .place) (d .unresolved))
 
-data IfGiven {A : Type 0} (Q : A → Type 0) : Input A → Type 0 where
+pub data IfGiven {A : Type 0} (Q : A → Type 0) : Input A → Type 0 where
   is-given : {a : A} → Q a → IfGiven Q (given a)
   not-given : {x : Refusal} → IfGiven Q (denied x)
 
-of-given : {A : Type 0} {Q : A → Type 0} {a : A} → IfGiven Q (given a) → Q a
+pub of-given : {A : Type 0} {Q : A → Type 0} {a : A} → IfGiven Q (given a) → Q a
 of-given (is-given h) = h
 
 root-given : (m : Read Root) → ((r : Root) (end items : ℕ) → m ≡ got r end items → Rising (map (λ u. u .place) (unresolvedIn (numbered r))))

@@ -35,11 +35,11 @@ module _ (table text : List ℕ) where
   -- ---- one record
 
   module _ (kind o : ℕ) (t : Text) (at : ℕ) (small : o + length t < 65536) (stands : At table at (textRecord kind o t)) where
-    offset-at : pairAt table (at + 1) ≡ o
+    pub offset-at : pairAt table (at + 1) ≡ o
     unfolding textRecord
     offset-at = at-pair o (two (length t)) (omega arith) (at-right (kind ∷ []) (two o ++ two (length t)) (at + 1) refl stands)
 
-    length-at : pairAt table (at + 3) ≡ length t
+    pub length-at : pairAt table (at + 3) ≡ length t
     unfolding textRecord two
     length-at = at-pair (length t) [] (omega arith) (at-right (kind ∷ two o) (two (length t)) (at + 3) refl stands)
 
@@ -90,7 +90,7 @@ module _ (table text : List ℕ) where
       ∙ ap (λ c. afterMembers keyed (after n) table (length text) c (at + 3)) counted ∙ e
       ∙ ap {B = Option ℕ} some (omega arith)
 
-  body-at : (kind count at : ℕ) (body : List ℕ) → At table at (kind ∷ two count ++ body) → At table (at + 3) body
+  pub body-at : (kind count at : ℕ) (body : List ℕ) → At table at (kind ∷ two count ++ body) → At table (at + 3) body
   unfolding two
   body-at kind count at body stands = at-right (kind ∷ two count) body (at + 3) refl stands
 

@@ -11,17 +11,18 @@ use Rattle.answers.specs.Theory.Sound.{clash}
 use Rattle.rules.specs.Sizes.{maxNesting}
 use Rattle.rules.specs.Bytes.{Text, byteAt, same}
 use Rattle.rules.specs.Tree.{Scalar, null, boolean, number, string}
-use Rattle.rules.specs.Values.{Value, scalar, arrayOf, objectOf, Members, no-members, member}
+use Rattle.rules.specs.Values.{Value, scalar, arrayOf, objectOf, Values, Members, no-members, member}
 use Rattle.rules.specs.Values.{countValues, countMembers, recordSize, textSize, nestingOf}
 use Rattle.rules.specs.Values.{memberRecordSizes, memberTextSizes, deepestMember}
 use Rattle.rules.specs.Sheet.{two, pairAt, textRecord, scalarRecord, records, valueRecords, memberRecords, texts, memberTexts}
-use Rattle.rules.specs.LookUp.{afterValue, memberFrom, memberAt, valueNamed}
+use Rattle.rules.specs.LookUp.{afterText, afterValue, textAt, memberFrom, memberAt, valueNamed}
 use Rattle.rules.specs.Theory.Choices.{by-test}
 use Rattle.rules.specs.Theory.Layout.{length-records}
 use Rattle.rules.specs.Theory.SameMeaning.{At, at-right, slice-at, count-members}
 use Rattle.rules.specs.Theory.TableSteps.{some-one}
 use Rattle.rules.specs.Theory.LookUpSteps.{from-zero, from-here, from-next, member-object, member-other, named-nil, named-none, named-next}
-use Rattle.rules.specs.Theory.LaidOut.{at-byte, at-pair, text-read, first-member, value-laid}
+use Rattle.rules.specs.Theory.LaidOut.{at-byte, at-pair, offset-at, length-at, text-laid, text-read, body-at, first-member}
+use Rattle.rules.specs.Theory.LaidOut.{value-laid}
 
 -- ---- the value that a path names in a value
 
@@ -41,7 +42,7 @@ unfolding memberIn
 valueAt [] v = some v
 valueAt (key ∷ path) v = elim (memberIn key v) [ none ↦ none | some w ↦ valueAt path w ]
 
--- ---- it is found
+-- ---- where values stand
 
 module _ (table text : List ℕ) where
   -- a value's records stand at a place of the table, and its texts where those say
@@ -65,52 +66,134 @@ module _ (table text : List ℕ) where
     nothing : Placed none none
     placed-at : {w : Value} {at : ℕ} → Stands w at → Placed (some w) (some at)
 
-  members-placed : (key : Text) (ms : Members) (o at : ℕ) → At table at (memberRecords o ms) → At text o (memberTexts ms)
-      → o + memberTextSizes ms < 65536 → memberRecordSizes ms < 65536 → deepestMember ms ≤ maxNesting
-      → Placed (memberOf key ms) (memberFrom (countMembers ms) table text key at)
-  unfolding memberOf countMembers textSize recordSize nestingOf
-  members-placed key no-members o at stands its-text small few shallow = rw (from-zero table text key at) nothing
-  members-placed key (member k v ms) o at stands its-text small few shallow =
-      let f = first-member table text k v ms o at stands its-text in
-      let its-key = text-read table text 8 o k at (omega arith) (f .key-stands) (f .key-text) in
+  -- ---- members, one after the other
+
+  -- members' records stand at a place of the table, and their texts where those say
+  pub record MembersStand (ms : Members) (at : ℕ) : Type 0 where
+    pub offset : ℕ
+    pub in-table : At table at (memberRecords offset ms)
+    pub in-text : At text offset (memberTexts ms)
+    pub small : offset + memberTextSizes ms < 65536
+    pub few : memberRecordSizes ms < 65536
+    pub shallow : deepestMember ms ≤ maxNesting
+
+  -- of the first its key, with its text, and its value; then the others
+  pub record MemberStands (k : Text) (v : Value) (ms : Members) (at : ℕ) : Type 0 where
+    pub key-kind : byteAt table at ≡ 8
+    pub key-length : pairAt table (at + 3) ≡ length k
+    pub key-in-text : At text (pairAt table (at + 1)) k
+    pub key-read : textAt table text at ≡ k
+    pub key-ends : afterText table (length text) 8 at ≡ some (at + 5)
+    pub value : Stands v (at + 5)
+    pub value-ends : afterValue maxNesting table (length text) (at + 5) ≡ some (at + 5 + recordSize v)
+    pub others : MembersStand ms (at + 5 + recordSize v)
+
+  pub first-stands : (k : Text) (v : Value) (ms : Members) (at : ℕ) → MembersStand (member k v ms) at → MemberStands k v ms at
+  unfolding textSize recordSize nestingOf textRecord
+  first-stands k v ms at s =
+      let o = s .offset in
+      let f = first-member table text k v ms o at (s .in-table) (s .in-text) in
+      let key-small : o + length k < 65536 = omega (arith, s .small) in
       let value : Stands v (at + 5) = record {
         offset = o + length k;
         in-table = f .value-stands;
         in-text = f .value-text;
-        small = omega arith;
-        few = omega arith;
-        shallow = omega arith;
+        small = omega (arith, s .small);
+        few = omega (arith, s .few);
+        shallow = omega (arith, s .shallow);
       } in
+      record {
+        key-kind = at-byte 8 (two o ++ two (length k)) (f .key-stands);
+        key-length = length-at table text 8 o k at key-small (f .key-stands);
+        key-in-text = rw (offset-at table text 8 o k at key-small (f .key-stands)) (f .key-text);
+        key-read = text-read table text 8 o k at key-small (f .key-stands) (f .key-text);
+        key-ends = text-laid table text 8 o k at key-small (f .key-stands) (f .key-text);
+        value = value;
+        value-ends = stands-whole v (at + 5) value;
+        others = record {
+          offset = o + length k + textSize v;
+          in-table = f .others-stand;
+          in-text = f .others-text;
+          small = omega (arith, s .small);
+          few = omega (arith, s .few);
+          shallow = omega (arith, s .shallow);
+        };
+      }
+
+  members-placed : (key : Text) (ms : Members) (at : ℕ) → MembersStand ms at
+      → Placed (memberOf key ms) (memberFrom (countMembers ms) table text key at)
+  unfolding memberOf countMembers
+  members-placed key no-members at s = rw (from-zero table text key at) nothing
+  members-placed key (member k v ms) at s =
+      let f = first-stands k v ms at s in
       let next = at + 5 + recordSize v in
       let n = countMembers ms in
       by-test (λ r. Placed r (memberFrom (suc n) table text key at)) (same k key)
-      (λ e. rw (from-here table text key n at (rw its-key e)) (placed-at value))
-      (λ e. rw (from-next table text key n at next (rw its-key e) (stands-whole v (at + 5) value))
-      (members-placed key ms (o + length k + textSize v) next (f .others-stand) (f .others-text) (omega arith) (omega arith) (omega arith)))
+      (λ e. rw (from-here table text key n at (rw (f .key-read) e)) (placed-at (f .value)))
+      (λ e. rw (from-next table text key n at next (rw (f .key-read) e) (f .value-ends)) (members-placed key ms next (f .others)))
 
-  scalar-kind : (x : Scalar) (o at : ℕ) → At table at (scalarRecord o x) → byteAt table at ≡ 7 → ⊥
+  -- ---- which kind of value stands there
+
+  scalar-kind : (x : Scalar) (o at : ℕ) → At table at (scalarRecord o x) → byteAt table at ≤ 5
   unfolding scalarRecord textRecord
-  scalar-kind null o at stands e = omega (arith, at-byte 1 [] stands)
-  scalar-kind (boolean false) o at stands e = omega (arith, at-byte 2 [] stands)
-  scalar-kind (boolean true) o at stands e = omega (arith, at-byte 3 [] stands)
-  scalar-kind (number t) o at stands e = omega (arith, at-byte 4 (two o ++ two (length t)) stands)
-  scalar-kind (string t) o at stands e = omega (arith, at-byte 5 (two o ++ two (length t)) stands)
+  scalar-kind null o at stands = omega (arith, at-byte 1 [] stands)
+  scalar-kind (boolean false) o at stands = omega (arith, at-byte 2 [] stands)
+  scalar-kind (boolean true) o at stands = omega (arith, at-byte 3 [] stands)
+  scalar-kind (number t) o at stands = omega (arith, at-byte 4 (two o ++ two (length t)) stands)
+  scalar-kind (string t) o at stands = omega (arith, at-byte 5 (two o ++ two (length t)) stands)
 
-  member-placed : (key : Text) (v : Value) (at : ℕ) → Stands v at → Placed (memberIn key v) (memberAt table text key at)
-  unfolding memberIn records texts textSize recordSize nestingOf two
-  member-placed key (scalar x) at s = rw (member-other table text key at (scalar-kind x (s .offset) at (s .in-table))) nothing
-  member-placed key (arrayOf vs) at s =
-      let k = at-byte 6 (two (countValues vs) ++ valueRecords (s .offset) vs) (s .in-table) in
-      rw (member-other table text key at (omega arith)) nothing
+  pub scalar-stands : (x : Scalar) (at : ℕ) → Stands (scalar x) at → byteAt table at ≤ 5
+  unfolding records
+  scalar-stands x at s = scalar-kind x (s .offset) at (s .in-table)
+
+  pub array-stands : (vs : Values) (at : ℕ) → Stands (arrayOf vs) at → byteAt table at ≡ 6
+  unfolding records
+  array-stands vs at s = at-byte 6 (two (countValues vs) ++ valueRecords (s .offset) vs) (s .in-table)
+
+  -- an object's is 7, and no other's
+  pub only-object : (v : Value) (at : ℕ) → Stands v at → byteAt table at ≡ 7 → (ms : Members) × (v ≡ objectOf ms)
+  only-object (scalar x) at s e = absurd (omega (arith, scalar-stands x at s))
+  only-object (arrayOf vs) at s e = absurd (omega (arith, array-stands vs at s))
+  only-object (objectOf ms) at s e = (ms, refl)
+
+  module _ (ms : Members) (at : ℕ) (s : Stands (objectOf ms) at) where
+    pub object-stands : byteAt table at ≡ 7
+    unfolding records
+    object-stands = at-byte 7 (two (countMembers ms) ++ memberRecords (s .offset) ms) (s .in-table)
+
+    pub object-count : pairAt table (at + 1) ≡ countMembers ms
+    unfolding records recordSize
+    object-count =
+        let n = countMembers ms in
+        let body = memberRecords (s .offset) ms in
+        at-pair n body (omega (arith, count-members ms, s .few)) (at-right (7 ∷ []) (two n ++ body) (at + 1) refl (s .in-table))
+
+    pub object-members : MembersStand ms (at + 3)
+    unfolding records texts textSize recordSize nestingOf
+    object-members = record {
+      offset = s .offset;
+      in-table = body-at table text 7 (countMembers ms) at (memberRecords (s .offset) ms) (s .in-table);
+      in-text = s .in-text;
+      small = s .small;
+      few = omega (arith, s .few);
+      shallow = omega (arith, s .shallow);
+    }
+
+  -- ---- what is named is found
+
+  pub member-placed : (key : Text) (v : Value) (at : ℕ) → Stands v at → Placed (memberIn key v) (memberAt table text key at)
+  unfolding memberIn
+  member-placed key (scalar x) at s = rw (member-other table text key at (λ e. omega (arith, scalar-stands x at s))) nothing
+  member-placed key (arrayOf vs) at s = rw (member-other table text key at (λ e. omega (arith, array-stands vs at s))) nothing
   member-placed key (objectOf ms) at s =
-      let o = s .offset in
-      let n = countMembers ms in
-      let counted : pairAt table (at + 1) ≡ n =
-      at-pair n (memberRecords o ms) (omega (arith, count-members ms, s .few))
-      (at-right (7 ∷ []) (two n ++ memberRecords o ms) (at + 1) refl (s .in-table)) in
-      rw (member-object table text key at (at-byte 7 (two n ++ memberRecords o ms) (s .in-table)), counted)
-      (members-placed key ms o (at + 3) (at-right (7 ∷ two n) (memberRecords o ms) (at + 3) refl (s .in-table)) (s .in-text)
-      (s .small) (omega (arith, s .few)) (omega (arith, s .shallow)))
+      rw (member-object table text key at (object-stands ms at s), object-count ms at s)
+      (members-placed key ms (at + 3) (object-members ms at s))
+
+  -- a member of an object, by its key
+  pub member-stands : (ms : Members) (at : ℕ) → Stands (objectOf ms) at → (key : Text)
+      → Placed (memberOf key ms) (memberAt table text key at)
+  unfolding memberIn
+  member-stands ms at s key = member-placed key (objectOf ms) at s
 
   -- along a path the same is named in the value and found in the table
   pub named-placed : (path : List Text) (v : Value) (at : ℕ) → Stands v at → Placed (valueAt path v) (valueNamed table text path at)

@@ -37,7 +37,7 @@ module _ {A : Type 0} (P : A → Type 0) where
   each-at (y ∷ xs) e zero x h = let z : y ≡ x = cc in rw z at (e .0)
   each-at (y ∷ xs) e (suc i) x h = each-at xs (e .1) i x h
 
-  each-reverse : (xs : List A) → Each P xs → Each P (reverse xs)
+  pub each-reverse : (xs : List A) → Each P xs → Each P (reverse xs)
   each-reverse xs e = each-onto xs [] e tt
 
 -- a number below N

@@ -76,7 +76,7 @@ module _ (strict : Bool) (N : ℕ) where
 -- ---- the list of unresolved values: their pieces and the layers before them, of a height
 
 module _ (strict : Bool) (N h : ℕ) where
-  abbrev HomeLow : Scope → Type 0
+  abbrev pub HomeLow : Scope → Type 0
   HomeLow none = Unit {0}
   HomeLow (some home) = AllLow strict N h (home .before)
 

@@ -265,7 +265,7 @@ module _ (known : ℕ → Option Answer) where
   valueIn zero w = refused spent
   valueIn (suc depth) w = then (gatherOf w []) (λ c. countedIn (valueIn depth) c)
 
-  then-same : {A B : Type 0} {x y : Given A} {f g : A → Given B} → x ≡ y → ((a : A) → f a ≡ g a) → then x f ≡ then y g
+  pub then-same : {A B : Type 0} {x y : Given A} {f g : A → Given B} → x ≡ y → ((a : A) → f a ≡ g a) → then x f ≡ then y g
   then-same {x = value a} {f = f} {g = g} e h = rw (sym e) (h a)
   then-same {x = refused z} e h = rw (sym e) refl
   then-same {x = missing b} e h = rw (sym e) refl
