@@ -5,7 +5,7 @@ use mathlib.Core.List.{List, [], _∷_, _++_, append-nil}
 use native.Mathlib.Omega.{arith}
 use native.Mathlib.Nat.{le-refl}
 use lib.ListN.{length, getD, take, drop, length-drop, length-append, drop-of-length-le}
-use lib.Seq.{take-all, length-take-le, getD-take, getD-append-add}
+use lib.Seq.{slice, take-all, take-nil, length-take-le, getD-take, getD-append-add}
 use borrow.Rule.Slice.PartMut.{putMid}
 
 -- the part `&mut x[u..]` that is lent, and x after the part has come back as y
@@ -49,3 +49,10 @@ back-above u x y k h =
     ap (λ (z : List ℕ). getD z (u + k) 0) (back-is u x y)
     ∙ ap (λ (n : ℕ). getD (take u x ++ y) (n + k) 0) (sym (length-take-le u x h))
     ∙ getD-append-add (take u x) y k 0
+
+-- a part with an end, `&x[f..e]`, is a slice
+pub part-slice : (l : List ℕ) (f e : ℕ) → f ≤ e → take (e - f) (drop f l) ≡ slice f e l
+part-slice l zero e h = let z : e - 0 ≡ e = omega arith in rw z
+part-slice [] (suc f) e h = rw (take-nil {A = ℕ} (e - suc f), take-nil {A = ℕ} e)
+part-slice (x ∷ l) (suc f) zero h = absurd (omega arith)
+part-slice (x ∷ l) (suc f) (suc e) h = let z : suc e - suc f ≡ e - f = omega arith in rw z (part-slice l f e (omega arith))

@@ -2,10 +2,10 @@
 use mathlib.Core.Path.{_≡_, refl, sym, _∙_, ap}
 use mathlib.Core.List.{List, [], _∷_}
 use mathlib.Core.Option.{Option, none, some}
-use Prim.Native.Nat.{ℕ, zero, suc, _+_, _-_, _*_, _≤_, _<_, min}
+use Prim.Native.Nat.{ℕ, suc, _+_, _-_, _*_, _≤_, _<_, min}
 use native.Mathlib.Omega.{arith}
 use lib.ListN.{length, getD, take, drop, length-drop, length-take}
-use lib.Seq.{slice, drop-nil, take-nil}
+use lib.Seq.{slice}
 use Rattle.answers.specs.Theory.Sound.{clash}
 use Rattle.rules.specs.Bytes.{Text}
 use Rattle.rules.specs.Refusals.{nowhere, spent}
@@ -14,6 +14,7 @@ use Rattle.rules.specs.Paths.{Element, textsOf}
 use Rattle.rules.specs.LookUp.{afterValue, memberAt, valueNamed}
 use Rattle.rules.specs.Jobs.{notFound, foundAt}
 use Rattle.rules.specs.Theory.LookUpSteps.{named-nil, named-none, named-next}
+use Rattle.chars.specs.Parts.{part-slice}
 use Rattle.chars.specs.Cursor.{doc}
 use Rattle.chars.specs.declared.RecAt.{RecAt}
 use Rattle.chars.specs.declared.DocAt.{DocAt}
@@ -24,13 +25,6 @@ use Rattle.paths.specs.Holding.{Held}
 use Rattle.dzintrulo.specs.Answers.{foundOf}
 use Rattle.dzintrulo.specs.Walks.{Near, Inside, NextIs, WalkIs, PartIs, ReachedIs}
 use Rattle.dzintrulo.specs.declared.Found.{Found}
-
--- a part of a list is a slice of it
-part-slice : (l : List ℕ) (f e : ℕ) → f ≤ e → take (e - f) (drop f l) ≡ slice f e l
-part-slice l zero e h = let z : e - 0 ≡ e = omega arith in rw z
-part-slice [] (suc f) e h = rw (take-nil {A = ℕ} (e - suc f), take-nil {A = ℕ} e)
-part-slice (x ∷ l) (suc f) zero h = absurd (omega arith)
-part-slice (x ∷ l) (suc f) (suc e) h = let z : suc e - suc f ≡ e - f = omega arith in rw z (part-slice l f e (omega arith))
 
 -- an end, back as the rules have it
 some-end : (o : Option ℕ) (p : RecAt) → End.At p ≡ endAt o → o ≡ some (p .0)

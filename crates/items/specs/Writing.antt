@@ -1,9 +1,13 @@
--- What writing an item promises.
+-- What reading a number and writing an item promise.
 use mathlib.Core.Path.{_≡_}
 use Prim.Native.Nat.{ℕ, _+_, _*_, _≤_, _<_}
 use mathlib.Core.List.{List}
 use lib.ListN.{length, getD}
 use Rattle.items.specs.declared.Item.{Item}
+
+pub record ReadIs (table : List ℕ) (at r : ℕ) : Type 0 where
+  pub is : r ≡ getD table at 0
+  pub small : r < 65536
 
 pub record FourAsked (at a b c d : ℕ) (table : List ℕ) : Type 0 where
   pub room : at + 4 ≤ length table

@@ -1,7 +1,9 @@
 // The document in memory: a table of items in preorder and a text part. How a tree stands in them, and how an item is written.
 use chars::DocAt;
 use chars::TextAt;
-ghost use Rattle.items.specs.Writing.{FourAsked, FourIs, ItemAsked, ItemIs};
+ghost use Rattle.items.specs.Writing.{ReadIs, FourAsked, FourIs, ItemAsked, ItemIs};
+ghost use mathlib.Core.Path.{_≡_};
+ghost use Prim.Native.Nat.{_<_};
 
 /// Document 01's limit on items, which counts no root.
 pub const MAX_ITEMS: usize = 2048;
@@ -31,6 +33,20 @@ pub struct Item {
     pub place: DocAt,
     /// an unresolved value's number; of a substitution how many elements its path has
     pub number: usize,
+}
+
+// A number of the table, widened: what is asked is the index alone.
+fn wide(x: u16) -> usize
+    ensures { λ r. ⌜ (r ≡ x) × (r < 65536) ⌝ }
+{
+    x as usize
+}
+
+/// A number of the table, 0 past its end.
+pub fn number_at(table: &[u16], at: usize) -> usize
+    ensures { λ r. ⌜ ReadIs (now (table .entry)) at r ⌝ }
+{
+    if at < table.len() { wide(table[at]) } else { 0 }
 }
 
 // Four numbers that fit, from a place of the table on.

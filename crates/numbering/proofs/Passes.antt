@@ -7,9 +7,10 @@ use mathlib.Core.Option.{none, some}
 use mathlib.Core.Logic.{inl, inr, ⊎-elim}
 use native.Mathlib.Omega.{arith}
 use lib.Dec.{ltb}
-use lib.ListN.{length, getD, set, getElem?, length-set, List·getD-eq-default}
+use lib.ListN.{length, getD, set, getElem?, length-set}
 use lib.Seq.{getD-set-same, getD-set-other}
 use borrow.Author.Tests.{ltb-true, ltb-false}
+use Rattle.items.specs.Writing.{ReadIs}
 use Rattle.items.specs.Room.{indexAt, capacity, tableRoom}
 use Rattle.chars.specs.declared.DocAt.{DocAt}
 use Rattle.rules.specs.Tree.{Pieces, Root, fields, elements, rootNode, numberNode, numbered}
@@ -19,18 +20,12 @@ use Rattle.rules.specs.Theory.Numbering.{count-node}
 use Rattle.items.specs.Holds.{NodeAt, PiecesAt}
 use Rattle.items.specs.Joining.{elements-forward, fields-forward}
 use Rattle.numbering.specs.declared.Count.{Count}
-use Rattle.numbering.specs.Numbers.{ReadIs, GiveIs, Step, ItemIs, table, Unnumbered, ItemOf, Indexed, Numbered, NumberIs}
+use Rattle.numbering.specs.Numbers.{GiveIs, Step, ItemIs, table, Unnumbered, ItemOf, Indexed, Numbered, NumberIs}
 use Rattle.numbering.proofs.Counts.{eights, eights-one, eights-none, eights-less, eights-same}
 use Rattle.numbering.proofs.Trees.{Any, Same, member-apart, member-fits, counts-node, Given, shown-node, shown-pieces}
 use Rattle.numbering.proofs.Lists.{few-none, many-some, Standing, Standings, standing, Holding, standings-node}
 
 -- ---- a number of the table, and an item's number
-
-pub read-there : {t : List ℕ} {at x : ℕ} → x ≡ getD t at 0 → ReadIs t at x
-read-there e = record { is = e }
-
-pub read-past : (t : List ℕ) (at : ℕ) → length t ≤ at → ReadIs t at 0
-read-past t at l = record { is = sym (List·getD-eq-default t 0 l) }
 
 pub give-both : {t u v : List ℕ} (i number : ℕ) → u ≡ set t (8 * i + 7) number → v ≡ set u (indexAt + number) i → GiveIs i number t v
 give-both i number e f = record { is = f ∙ rw e }
@@ -273,8 +268,6 @@ module _ {before now : List ℕ} {items i count : ℕ} (P : Passing before items
   pass-excess {after} {p} {r} l h e =
       let s : Step i count now after (Count.Excess p) = rw e at (h .is) in
       record { same = h .same ∙ P .same; is = λ root t lo hi X. one-too-many X P few l (s .0) (s .1) (s .2) }
-
-pub ruleset reads = (read-there, read-past)
 
 pub ruleset gives = give-both
 

@@ -16,10 +16,6 @@ use Rattle.numbering.specs.declared.Count.{Count}
 
 -- ---- steps
 
--- a number of the table
-pub record ReadIs (table : List ℕ) (at r : ℕ) : Type 0 where
-  pub is : r ≡ getD table at 0
-
 -- an item's number, and the item of that number
 pub record GiveIs (i number : ℕ) (before after : List ℕ) : Type 0 where
   pub is : after ≡ set (set before (8 * i + 7) number) (indexAt + number) i

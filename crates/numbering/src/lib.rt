@@ -5,26 +5,12 @@ ghost use mathlib.Core.Path.{_≡_};
 ghost use Prim.Native.Nat.{_≤_, _<_};
 ghost use lib.ListN.{length, set};
 ghost use Rattle.items.specs.Room.{capacity, tableRoom};
-ghost use Rattle.numbering.specs.Numbers.{ReadIs, GiveIs, ItemIs, NumberIs};
+ghost use Rattle.numbering.specs.Numbers.{GiveIs, ItemIs, NumberIs};
 
 /// How many unresolved values there are, all numbered; or the place of the first one too many.
 pub enum Count {
     Done { count: usize },
     Excess { place: DocAt },
-}
-
-// A number of the table, widened: what is asked is the index alone.
-fn wide(x: u16) -> usize
-    ensures { λ r. ⌜ r ≡ x ⌝ }
-{
-    x as usize
-}
-
-// A number of the table, 0 past its end.
-fn number_at(table: &[u16], at: usize) -> usize
-    ensures { λ r. ⌜ ReadIs (now (table .entry)) at r ⌝ }
-{
-    if at < table.len() { wide(table[at]) } else { 0 }
 }
 
 // A number that fits.
@@ -49,11 +35,11 @@ fn number_item(table: &mut [u16], i: usize, count: usize) -> Count
     requires { ⌜ (i < capacity) × (count ≤ 256) × (tableRoom ≤ length (now table)) ⌝ }
     ensures { λ r. ⌜ ItemIs i count (now (table .entry)) (now (table .exit)) r ⌝ }
 {
-    let kind = number_at(table, 8 * i);
+    let kind = items::number_at(table, 8 * i);
     if kind == 8 {
         if count == 256 {
             // The place of an unresolved value is that of its first piece, which is the next item.
-            let place = number_at(table, 8 * (i + 1) + 6);
+            let place = items::number_at(table, 8 * (i + 1) + 6);
             return Count::Excess {
                 place: DocAt(place),
             };

@@ -182,7 +182,7 @@ fn same_byte(text: &[u8], p: usize, key: &[u8], i: usize) -> bool
 
 // The bytes of a text that is as long as the key.
 fn same_bytes(text: &[u8], from: TextAt, key: &[u8]) -> bool
-    requires { ⌜ (SizeIs (now text) (from .0) (length (now key)) (length (now key))) × (length (now text) ≤ 32768) × (from .0 ≤ 65792) ⌝ }
+    requires { ⌜ (SizeIs (now text) (from .0) (length (now key)) (length (now key))) × (length (now text) ≤ 131072) × (from .0 ≤ 262144) ⌝ }
     ensures { λ r. ⌜ r ≡ same (slice (from .0) (from .0 + length (now (key .entry))) (now (text .entry))) (now (key .entry)) ⌝ }
 {
     let f = from.0;
@@ -199,7 +199,7 @@ fn same_bytes(text: &[u8], from: TextAt, key: &[u8]) -> bool
 
 /// Whether the text at a place is a key: by its length first, then by its bytes.
 pub fn same_text(text: &[u8], from: TextAt, len: TextAt, key: &[u8]) -> bool
-    requires { ⌜ (length (now text) ≤ 32768) × (from .0 ≤ 65792) ⌝ }
+    requires { ⌜ (length (now text) ≤ 131072) × (from .0 ≤ 262144) ⌝ }
     ensures { λ r. ⌜ r ≡ same (slice (from .0) (from .0 + len .0) (now (text .entry))) (now (key .entry)) ⌝ }
 {
     if text_size(text, from, len) == key.len() {

@@ -1,8 +1,8 @@
 -- laws: reads
-use Rattle.numbering.proofs.Passes.{reads}
+use Rattle.items.proofs.Reading.{reads}
 use borrow.Author.Needs.{needs}
-use Rattle.numbering.proofs.number_at.Statement.{statement}
-use Rattle.numbering.proofs.number_at.Tie as tie
+use Rattle.items.proofs.number_at.Statement.{statement}
+use Rattle.items.proofs.number_at.Tie as tie
 
 -- what is left to show, a declaration for each need
 

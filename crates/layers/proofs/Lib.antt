@@ -1,0 +1,5 @@
+pub mod Stacks
+pub mod Members
+pub mod Depths
+pub mod Tops
+pub mod Keysets

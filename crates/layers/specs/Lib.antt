@@ -1,0 +1,4 @@
+pub mod Walks
+pub mod Contracts
+pub mod Showing
+pub mod Gathering
