@@ -1,3 +1,4 @@
 pub mod Cursor
 pub mod Seen
 pub mod Parts
+pub mod Bounds

@@ -3,3 +3,4 @@ pub mod Members
 pub mod Depths
 pub mod Tops
 pub mod Keysets
+pub mod Paths

@@ -1,4 +1,6 @@
 pub mod Walks
 pub mod Contracts
+pub mod Routes
 pub mod Showing
 pub mod Gathering
+pub mod Along

@@ -548,11 +548,11 @@ module _ (T R X W : List ℕ) (hi : ℕ) where
 
       -- numbers that show layers give numbers that show the layers one key deeper
       pub deeper-shows : (cs : List ℕ) (ls : List Layer) (st : Stuck) (st′ : Ending) → Match cs ls → Ended st st′
-          → weigh known ls ≤ r → WalkShows (deeperC T R X k r cs st) (deeperIn known (textOf X k) ls st′)
+          → weigh known ls ≤ r + length ls → WalkShows (deeperC T R X k r cs st) (deeperIn known (textOf X k) ls st′)
       unfolding deeperC deeperIn
       deeper-shows [] [] st st′ m e l = (tt, e)
       deeper-shows [] (y ∷ ls) st st′ m e l = absurd m
       deeper-shows (c ∷ cs) [] st st′ m e l = absurd m
       deeper-shows (c ∷ cs) (y ∷ ls) st st′ m e l =
           inside-shows y (deeperC T R X k r cs st) (deeperIn known (textOf X k) ls st′) (viewAt T R c) (viewed c y (m .0))
-          (deeper-shows cs ls st st′ (m .1) e (omega arith)) (omega (arith, deeper-weighs known (textOf X k) ls st′))
+          (deeper-shows cs ls st st′ (m .1) e (omega (arith, length-weighs known (y ∷ [])))) (omega (arith, deeper-weighs known (textOf X k) ls st′))

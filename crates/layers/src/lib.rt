@@ -1,16 +1,18 @@
 // Layers on a stack. The layers of a path stand on it one above the other, the last written on top; one key deeper they stand above
 // them. All are walked at once: the answers do not change meanwhile, and a mark says where a missing one ended the walk.
+use chars::TextAt;
 use members::Child;
 use members::Key;
 use members::Shown;
 use members::Sight;
 ghost use mathlib.Core.Path.{_≡_};
-ghost use Prim.Native.Nat.{_≤_, _-_};
+ghost use Prim.Native.Nat.{_≤_, _<_, _-_};
 ghost use lib.ListN.{length};
 ghost use Rattle.members.specs.Contracts.{Near, Few};
 ghost use Rattle.layers.specs.Walks.{pushC, layC, namedC, pickC, insideBy, kids, metC, endC, addC, addsC, keysOfC};
 ghost use Rattle.members.specs.Shows.{viewAt};
 ghost use Rattle.layers.specs.Contracts.{Looking, Stack, Segment, Grew, walked, WalkedIs, DeeperIs, GatherIs, HasIs, KeysIs};
+ghost use Rattle.layers.specs.Routes.{TwoIs, BeginsIs, Close, PathKeyIs, onwardC, parted, PartIs, WalkIs};
 
 /// Where a walk ended: at the end of the layers, or at an unresolved value that has no answer yet.
 pub enum Stuck {
@@ -332,4 +334,105 @@ pub fn keys(
         i += 1;
     }
     t
+}
+
+// ---- paths
+
+/// Where the path of a substitution stands in the texts: its elements one behind the other, so many bytes, and behind them their ends, two
+/// bytes each.
+pub struct Route {
+    pub at: TextAt,
+    pub len: TextAt,
+    pub count: usize,
+}
+
+/// Layers between two places of the stack, and how their walk ended.
+pub struct Part {
+    pub lo: usize,
+    pub hi: usize,
+    pub stuck: Stuck,
+}
+
+// A number of two bytes, the high one first.
+fn two_at(texts: &[u8], p: usize) -> usize
+    requires { ⌜ p ≤ 1048576 ⌝ }
+    ensures { λ r. ⌜ TwoIs (now (texts .entry)) p r ⌝ }
+{
+    let high = chars::byte_at(texts, p) as usize;
+    let low = chars::byte_at(texts, p + 1) as usize;
+    high * 256 + low
+}
+
+// Where an element begins: where the one before it ends.
+fn begins(texts: &[u8], ends: usize, i: usize) -> usize
+    requires { ⌜ (ends ≤ 524288) × (i ≤ 65536) ⌝ }
+    ensures { λ r. ⌜ BeginsIs (now (texts .entry)) ends i r ⌝ }
+{
+    if i == 0 {
+        return 0;
+    }
+    two_at(texts, ends + 2 * (i - 1))
+}
+
+// What is left of a number, or nothing.
+fn left_of(a: usize, b: usize) -> usize
+    ensures { λ r. ⌜ r ≡ a - b ⌝ }
+{
+    if a < b { 0 } else { a - b }
+}
+
+/// An element of a path, as a key.
+pub fn path_key(texts: &[u8], route: Route, i: usize) -> Key
+    requires { ⌜ Close route × (i < route .count) ⌝ }
+    ensures { λ r. ⌜ PathKeyIs (now (texts .entry)) route i r ⌝ }
+{
+    let at = route.at;
+    let len = route.len;
+    let ends = at.0 + len.0;
+    let from = begins(texts, ends, i);
+    let to = two_at(texts, ends + 2 * i);
+    Key {
+        at: TextAt(at.0 + from),
+        len: TextAt(left_of(to, from)),
+    }
+}
+
+/// The layers one key deeper, right above these.
+pub fn onward(table: &[u16], records: &[u8], texts: &[u8], s: &mut [usize], p: Part, k: Key) -> Part
+    requires { ⌜ Looking (now records) (now texts) × Near k × Stack (p .lo) (p .hi) (now s) ⌝ }
+    ensures { λ r. ⌜ PartIs (now (s .entry)) (p .hi) (now (s .exit)) r (onwardC (now (table .entry)) (now (records .entry)) (now (texts .entry)) k (parted (now (s .entry)) p)) ⌝ }
+{
+    let lo = p.lo;
+    let hi = p.hi;
+    let stuck = p.stuck;
+    let w = deeper(table, records, texts, s, lo, hi, stuck, hi, k);
+    let end = w.stuck;
+    Part {
+        lo: hi,
+        hi: w.top,
+        stuck: end,
+    }
+}
+
+/// The layers of a path from one of its elements on, above those that it begins with.
+pub fn walk(
+    table: &[u16],
+    records: &[u8],
+    texts: &[u8],
+    s: &mut [usize],
+    start: Part,
+    route: Route,
+    from: usize,
+) -> Part
+    requires { ⌜ Looking (now records) (now texts) × Close route × Stack (start .lo) (start .hi) (now s) ⌝ }
+    ensures { λ r. ⌜ WalkIs (now (table .entry)) (now (records .entry)) (now (texts .entry)) (now (s .entry)) start route from (now (s .exit)) r ⌝ }
+{
+    let mut i = from;
+    let mut p = start;
+    while i < route.count {
+        let k = path_key(texts, route, i);
+        p = onward(table, records, texts, s, p, k);
+        i += 1;
+    }
+    p
 }

@@ -9,7 +9,7 @@ use lib.Dec.{ltb, eqb}
 use borrow.Author.Tests.{le-leb, lt-leb, ltb-true, ltb-false, eq-eqb, ne-eqb}
 use Rattle.rules.specs.Sheet.{pairAt}
 use Rattle.rules.specs.LookUp.{afterText}
-use Rattle.rules.specs.Theory.Places.{byte-past}
+use Rattle.chars.specs.Bounds.{byte-le}
 use Rattle.chars.specs.Cursor.{ByteIs}
 use Rattle.sheet.specs.Records.{rec, PairIs, EndIs, kindOf, valueStart}
 use Rattle.sheet.specs.Ends.{end-some, end-none, end-as}
@@ -17,13 +17,6 @@ use Rattle.sheet.specs.declared.End.{End}
 use Rattle.sheet.specs.declared.Kind.{Kind}
 
 -- ---- two bytes
-
-byte-le : {s : List ℕ} {at b : ℕ} → ByteIs s at b → b ≤ 256
-byte-le {s} {at} {b} h = go (ltb at (length s)) refl
-  where
-    go : (t : Bool) → ltb at (length s) ≡ t → b ≤ 256
-    go true e = omega (arith, h .small (ltb-true at (length s) e))
-    go false e = omega (arith, h .is, byte-past s at (ltb-false at (length s) e))
 
 pub pair-is : {s : List ℕ} {at high low : ℕ} → ByteIs s at high → ByteIs s (at + 1) low → PairIs s at (high * 256 + low)
 unfolding pairAt
