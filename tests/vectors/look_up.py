@@ -1,5 +1,5 @@
 #!/usr/bin/env python3
-r"""Writes the vectors of look-up: stdin and stdout of the program crates/vectors.
+r"""Writes the vectors of look-up: stdin and stdout of the program crates/test_look_up.
 
 Each vector is written from document 01 by hand, its answer too; no look-up is called here. So the vectors are a test of
 the definitions as well as of the code.
@@ -7,8 +7,9 @@ the definitions as well as of the code.
     stdin   the vectors one after another, to the end of the file. A vector is its table, its text and its path text;
             each of the three is a length of 4 bytes, high byte first, and then so many bytes. A table or a text has at
             most 32,769 bytes, one more than may be lent; a path text at most 1,025.
-    stdout  for each vector a line 'number place start size kind' in decimal. Found: 0 0, then where the value starts in
-            the table, its size, and its first byte. Refused: number and place, then 0 0 0.
+    stdout  for each vector a line 'number place start size kind length' in decimal. Found: 0 0, then where the value
+            starts in the table and its size; of the part that is handed back its first byte and its length. Refused:
+            number and place, then 0 0 0 0.
 """
 
 import pathlib
@@ -517,14 +518,14 @@ look_up(EMPTY, b"ab", b"a..b", refused(7, 0))
 
 
 def main():
-    folder = pathlib.Path(__file__).parents[2] / "crates" / "vectors"
+    folder = pathlib.Path(__file__).parents[2] / "crates" / "test_look_up"
     vectors, answers = bytearray(), []
     for table, text, path, answer in VECTORS:
         for part in (table, text, path):
             vectors += len(part).to_bytes(4, "big") + part
         number, place, start, size = answer
         kind = table[start] if number == 0 else 0
-        answers.append(f"{number} {place} {start} {size} {kind}\n")
+        answers.append(f"{number} {place} {start} {size} {kind} {size}\n")
     (folder / "stdin").write_bytes(vectors)
     (folder / "stdout").write_text("".join(answers))
 

@@ -1,5 +1,5 @@
 #!/usr/bin/env python3
-r"""Writes the vectors of the reader: stdin and stdout of the program crates/read_vectors.
+r"""Writes the vectors of the reader: stdin and stdout of the program crates/test_read.
 
 Each vector is written from document 01 by hand, its answer too: number and place of a refusal, or how many items and
 unresolved values the document has. The plain reader beside this script has to give the same answers, and the items of
@@ -1111,7 +1111,7 @@ refused(b"+", 3, 0, 64 * b"A=x\0")
 
 
 def main():
-    folder = pathlib.Path(__file__).parents[2] / "crates" / "read_vectors"
+    folder = pathlib.Path(__file__).parents[2] / "crates" / "test_read"
     vectors, answers = bytearray(), []
     for document, environment, answer in VECTORS:
         plain, items = plain_reader.read(document, environment)

@@ -11,13 +11,13 @@ use lib.Dec.{eqb}
 
 pub data Ask (F R A : Type 0) : Type 0 where
   done : A → Ask F R A
-  refuse : F → Ask F R A
+  refused : F → Ask F R A
   need : ℕ → (R → Ask F R A) → Ask F R A
 
 -- one computation after another
 abbrev pub bind : {F R A B : Type 0} → Ask F R A → (A → Ask F R B) → Ask F R B
 bind (done a) k = k a
-bind (refuse x) k = refuse x
+bind (refused x) k = refused x
 bind (need q f) k = need q (λ r. bind (f r) k)
 
 -- What a computation comes to against known answers: its value, its refusal, or the first question whose answer is missing.
@@ -26,14 +26,20 @@ pub data Out (F A : Type 0) : Type 0 where
   refused : F → Out F A
   missing : ℕ → Out F A
 
-abbrev pub given : {F R A : Type 0} → ℕ → (R → Out F A) → Option R → Out F A
-given q k none = missing q
-given q k (some r) = k r
+abbrev pub orMissing : {F R A : Type 0} → ℕ → (R → Out F A) → Option R → Out F A
+orMissing q k none = missing q
+orMissing q k (some r) = k r
 
 abbrev pub run : {F R A : Type 0} → (ℕ → Option R) → Ask F R A → Out F A
 run known (done a) = value a
-run known (refuse x) = refused x
-run known (need q f) = given q (λ r. run known (f r)) (known q)
+run known (refused x) = refused x
+run known (need q f) = orMissing q (λ r. run known (f r)) (known q)
+
+-- what goes on after a run, where the run has a value
+abbrev pub then : {F A B : Type 0} → Out F A → (A → Out F B) → Out F B
+then (value a) k = k a
+then (refused x) k = refused x
+then (missing q) k = missing q
 
 -- the questions whose answers a run takes
 abbrev pub taken : {R : Type 0} → (R → List ℕ) → Option R → List ℕ
@@ -42,7 +48,7 @@ taken k (some r) = k r
 
 abbrev pub needs : {F R A : Type 0} → (ℕ → Option R) → Ask F R A → List ℕ
 needs known (done a) = []
-needs known (refuse x) = []
+needs known (refused x) = []
 needs known (need q f) = q ∷ taken (λ r. needs known (f r)) (known q)
 
 -- A trail holds answered questions, THE NEWEST FIRST: an entry's tail is the trail that it was laid upon.

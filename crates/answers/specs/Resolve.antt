@@ -1,11 +1,11 @@
--- The order of working out: `resolve` by recursion, `machine` by restarts; and `Accepts`, the test of a trail that anybody made.
+-- The order of working out, `resolve`; and `Accepts`, the test of a trail that anybody made.
 use mathlib.Core.Path.{_≡_}
 use Prim.Native.Nat.{ℕ, zero, suc}
 use mathlib.Core.Bool.{Bool, cond}
 use mathlib.Core.List.{List, [], _∷_}
 use mathlib.Core.Option.{Option, none, some}
 use lib.Dec.{ltb}
-use Rattle.answers.specs.Ask.{Ask, done, refuse, need, Out, value, refused, missing, run, Trail, lookup, mem}
+use Rattle.answers.specs.Ask.{Ask, done, need, value, run, Trail, lookup, mem}
 
 -- What a resolution goes by: each question's rules, the three refusals of the order, and which trails fit their room.
 pub record Rules (F R : Type 0) : Type 0 where
@@ -21,36 +21,25 @@ pub record Rules (F R : Type 0) : Type 0 where
 -- a resolution's result: a value with the trail and the count of questions begun; a refusal; or out of fuel
 pub data Res (F R A : Type 0) : Type 0 where
   answer : A → Trail R → ℕ → Res F R A
-  stop : F → Res F R A
+  refused : F → Res F R A
   dry : Res F R A
 
 abbrev pub after : {F R A B : Type 0} → Res F R A → (A → Trail R → ℕ → Res F R B) → Res F R B
 after (answer a S n) k = k a S n
-after (stop x) k = stop x
+after (refused x) k = refused x
 after dry k = dry
 
 -- one computation, each need handed to `h`
 abbrev pub walk : {F R A : Type 0} → (ℕ → Trail R → ℕ → Res F R R) → Trail R → ℕ → Ask F R A → Res F R A
 walk h S n (done a) = answer a S n
-walk h S n (refuse x) = stop x
+walk h S n (Ask.refused x) = refused x
 walk h S n (need q f) = after (h q S n) (λ r S′ n′. walk h S′ n′ (f r))
 
 -- a needed question: its answer is in the trail; or it is barred; or it begins, one more
 abbrev pub enter : {F R : Type 0} → Option R → Option F → Trail R → ℕ → (ℕ → Res F R R) → Res F R R
 enter (some r) x S n go = answer r S n
-enter none (some x) S n go = stop x
+enter none (some x) S n go = refused x
 enter none none S n go = go (suc n)
-
--- what a restart does with a run's value, refusal or missing question
-abbrev pub react : {F R A B : Type 0} → Out F A → (A → Res F R B) → (ℕ → Res F R B) → Res F R B
-react (value a) pop push = pop a
-react (refused x) pop push = stop x
-react (missing q) pop push = push q
-
--- a missing question is barred, or begins
-abbrev pub unless : {F R A : Type 0} → Option F → (ℕ → Res F R A) → ℕ → Res F R A
-unless (some x) push n = stop x
-unless none push n = push (suc n)
 
 module _ {F R : Type 0} (ρ : Rules F R) where
   -- why question q may not begin, where n have begun and `busy` are being worked out
@@ -59,8 +48,8 @@ module _ {F R : Type 0} (ρ : Rules F R) where
 
   -- question q's answer becomes the trail's next entry
   abbrev pub lay : ℕ → Res F R R → Res F R R
-  lay q (answer r S n) = cond (ρ .fits ((q, r) ∷ S)) (answer r ((q, r) ∷ S) n) (stop (ρ .full))
-  lay q (stop x) = stop x
+  lay q (answer r S n) = cond (ρ .fits ((q, r) ∷ S)) (answer r ((q, r) ∷ S) n) (refused (ρ .full))
+  lay q (refused x) = refused x
   lay q dry = dry
 
   -- no question twice, and every entry's answer is what its rules give with the needed answers taken from the entries before it
@@ -82,13 +71,3 @@ module _ {F R : Type 0} (ρ : Rules F R) where
     -- the root's value, where the questions are 0 to N - 1
     abbrev pub resolve : {A : Type 0} → Ask F R A → ℕ → Res F R A
     resolve root N = walk (worked N []) [] 0 root
-
-    -- the same by restarts: each step runs the rules of the question on top of the stack, or the root's, from their start
-    abbrev pub machine : {A : Type 0} → Ask F R A → ℕ → List ℕ → Trail R → ℕ → Res F R A
-    machine root zero stack S n = dry
-    machine root (suc m) [] S n =
-        react (run (lookup S) root) (λ v. answer v S n)
-        (λ q. unless (bar budget [] n q) (machine root m (q ∷ []) S) n)
-    machine root (suc m) (b ∷ bs) S n =
-        react (run (lookup S) (ρ .rule b)) (λ r. after (lay b (answer r S n)) (λ r′ S′ n′. machine root m bs S′ n′))
-        (λ q. unless (bar budget (b ∷ bs) n q) (machine root m (q ∷ b ∷ bs) S) n)

@@ -1,4 +1,5 @@
 -- What is proved of the two modules of definitions, `Ask` and `Resolve`.
+pub mod Restarts
 pub mod Holds
 pub mod Sound
 pub mod Fuel

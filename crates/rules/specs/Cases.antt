@@ -5,15 +5,15 @@ use Prim.Native.Nat.{ℕ}
 use Prim.Native.Char.{code}
 use Prim.Native.String.{String, [] as nil, _∷_ as cons}
 use mathlib.Core.List.{List, [], _∷_, _++_, map, reverse}
-use mathlib.Core.Option.{none, some}
+use mathlib.Core.Option.{some}
 use lib.ListN.{length}
 use Rattle.answers.specs.Ask.{Trail}
 use Rattle.rules.specs.Bytes.{Text}
 use Rattle.rules.specs.Utf8.{encoded}
-use Rattle.rules.specs.Tree.{number, string, null}
+use Rattle.rules.specs.Tree.{number, string}
 use Rattle.rules.specs.Values.{Value, scalar, arrayOf, objectOf, Values, no-values, val, Members, no-members, member, Answer}
 use Rattle.rules.specs.Sheet.{records, texts, trailTextSize, trailRecords, trailTexts}
-use Rattle.rules.specs.Jobs.{Resolved, resolveJob, Verdict, checkJob, Found, lookUpJob}
+use Rattle.rules.specs.Jobs.{Resolved, resolveJob}
 
 -- ---- how a case is written
 

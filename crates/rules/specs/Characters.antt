@@ -7,6 +7,7 @@ use mathlib.Core.Bool.{Bool, true, false, not, _&&_, _||_}
 use lib.Dec.{ltb, eqb}
 use lib.ListN.{length}
 use Rattle.rules.specs.Bytes.{noByte, byteAt, within, skip}
+use Rattle.rules.specs.Ascii as ascii
 
 -- past the end there is no character; this is no code point
 abbrev pub noCharacter : ℕ
@@ -21,9 +22,9 @@ widthOf lead =
     ]
 
 -- the place after the character at a place, never past the end
-unfoldable pub next : List ℕ → ℕ → ℕ
+unfoldable pub nextPlace : List ℕ → ℕ → ℕ
 unfolding widthOf
-next s at = min (at + widthOf (byteAt s at)) (length s)
+nextPlace s at = min (at + widthOf (byteAt s at)) (length s)
 
 -- A character of several bytes is from U+0080 to U+10FFFF, whatever the bytes. In a job this changes nothing: the text is well-formed
 -- there, and its characters are in that range anyway.
@@ -51,10 +52,10 @@ characterAt s at =
     ]
 
 abbrev pub isNewline : ℕ → Bool
-isNewline c = eqb c 10
+isNewline c = eqb c ascii.newline
 
 abbrev pub isSpace : ℕ → Bool
-isSpace c = within 9 13 c || within 28 31 c || eqb c 32
+isSpace c = within ascii.tab ascii.carriageReturn c || within ascii.fileSeparator ascii.unitSeparator c || eqb c ascii.space
 
 -- whitespace but newline: what may stand between the pieces of one value or path
 abbrev pub isInline : ℕ → Bool
@@ -63,33 +64,33 @@ isInline c = isSpace c && not (isNewline c)
 -- a comment begins here
 unfoldable pub startsComment : List ℕ → ℕ → Bool
 startsComment s at =
-    elim (eqb (byteAt s at) 35) [
+    elim (eqb (byteAt s at) ascii.hash) [
       | true ↦ true
-      | false ↦ elim (eqb (byteAt s at) 47) [ true ↦ eqb (byteAt s (at + 1)) 47 | false ↦ false ]
+      | false ↦ elim (eqb (byteAt s at) ascii.slash) [ true ↦ eqb (byteAt s (at + 1)) ascii.slash | false ↦ false ]
     ]
 
 -- the place after the whitespace but newlines
 unfoldable pub afterInline : List ℕ → ℕ → ℕ
-unfolding skip next characterAt
-afterInline s at = skip (λ p. isInline (characterAt s p)) (next s) (length s) at
+unfolding skip nextPlace characterAt
+afterInline s at = skip (λ p. isInline (characterAt s p)) (nextPlace s) (length s) at
 
 -- the newline that ends a comment, or the end
 unfoldable pub lineEnd : List ℕ → ℕ → ℕ
-unfolding skip next characterAt
-lineEnd s at = skip (λ p. not (isNewline (characterAt s p) || eqb (characterAt s p) noCharacter)) (next s) (length s) at
+unfolding skip nextPlace characterAt
+lineEnd s at = skip (λ p. not (isNewline (characterAt s p) || eqb (characterAt s p) noCharacter)) (nextPlace s) (length s) at
 
 -- the place after whitespace, newlines and comments, and whether a newline was among them
 pub record Gap : Type 0 where
   pub place : ℕ
   pub newline : Bool
 
--- as many steps as the text has bytes are enough: each goes forward, and none is made at the end (module Places of Theory)
-unfoldable pub gapFrom : ℕ → List ℕ → ℕ → Bool → Gap
-unfolding next characterAt startsComment lineEnd
+-- as many steps as the text has bytes are enough: each goes forward, and none is made at the end (module Places of `theory`)
+unfoldable pub gapFrom : (fuel : ℕ) (s : List ℕ) (at : ℕ) (newline : Bool) → Gap
+unfolding nextPlace characterAt startsComment lineEnd
 gapFrom zero s at newline = record { place = at; newline = newline }
 gapFrom (suc n) s at newline =
     elim (isSpace (characterAt s at)) [
-      | true ↦ gapFrom n s (next s at) (newline || isNewline (characterAt s at))
+      | true ↦ gapFrom n s (nextPlace s at) (newline || isNewline (characterAt s at))
       | false ↦ elim (startsComment s at) [
         | true ↦ gapFrom n s (lineEnd s at) newline
         | false ↦ record { place = at; newline = newline }

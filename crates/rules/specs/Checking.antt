@@ -27,8 +27,8 @@ unfolding ruleOf
 answerFor x S b = elim (lookup S b) [ some a ↦ none | none ↦ answerIn (run (lookup S) (ruleOf x b)) ]
 
 -- The entries that the trail's numbers call for, each found from those before it. The next entry begins where those so far end. As many
--- steps as the trail has bytes are enough: an entry has some, and none is called for at the end (module Entries of Theory).
-unfoldable pub entriesFrom : ℕ → Setting → List ℕ → Trail Answer → Option (Trail Answer)
+-- steps as the trail has bytes are enough: an entry has some, and none is called for at the end (module Entries of `theory`).
+unfoldable pub entriesFrom : (fuel : ℕ) (x : Setting) (trail : List ℕ) (S : Trail Answer) → Option (Trail Answer)
 unfolding pairAt answerFor trailSize
 entriesFrom zero x trail S = some S
 entriesFrom (suc n) x trail S =
@@ -40,18 +40,18 @@ entriesFrom (suc n) x trail S =
     ]
 
 -- the layout is exact
-unfoldable pub isSheet : Trail Answer → Value → List ℕ → List ℕ → List ℕ → Bool
+unfoldable pub isSheet : (S : Trail Answer) (v : Value) (trail table text : List ℕ) → Bool
 unfolding same records texts trailTextSize trailRecords trailTexts
 isSheet S v trail table text =
     same trail (trailRecords S) && same table (records (trailTextSize S) v) && same text (trailTexts S ++ texts v)
 
-unfoldable pub tableAccepted : Trail Answer → List ℕ → List ℕ → List ℕ → Out Refusal Value → Bool
+unfoldable pub tableAccepted : (S : Trail Answer) (trail table text : List ℕ) (root : Out Refusal Value) → Bool
 unfolding withinSize isSheet
 tableAccepted S trail table text (value v) = withinSize v && isSheet S v trail table text
 tableAccepted S trail table text (refused x) = false
 tableAccepted S trail table text (missing b) = false
 
-unfoldable pub accepted : Setting → List ℕ → List ℕ → List ℕ → Bool
+unfoldable pub accepted : (x : Setting) (trail table text : List ℕ) → Bool
 unfolding entriesFrom rootValue tableAccepted
 accepted x trail table text =
     elim (entriesFrom (length trail) x trail []) [

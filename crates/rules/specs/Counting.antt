@@ -3,12 +3,13 @@ use Prim.Native.Nat.{ℕ, suc}
 use mathlib.Core.List.{List, [], _∷_}
 use mathlib.Core.Bool.{Bool, false, cond}
 use Rattle.rules.specs.Bytes.{within}
-use Rattle.rules.specs.Meaning.{Record, plain, numbered, worded, unread, recordsOf}
+use Rattle.rules.specs.Kinds as kinds
+use Rattle.rules.specs.Meaning.{Record, plain, withNumber, worded, unread, recordsOf}
 
 -- "9 entry: blend number 2, answer following", "10 undefined entry: blend number 2"
 abbrev pub isEntry : Record → Bool
 isEntry (plain kind) = false
-isEntry (numbered kind n) = within 9 10 kind
+isEntry (withNumber kind n) = within kinds.entry kinds.undefinedEntry kind
 isEntry (worded kind n t) = false
 isEntry (unread s) = false
 

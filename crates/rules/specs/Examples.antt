@@ -7,7 +7,7 @@ use mathlib.Core.List.{List, [], _∷_, map}
 use mathlib.Core.Option.{none, some}
 use Rattle.answers.specs.Ask.{Trail}
 use Rattle.rules.specs.Values.{Value, Answer}
-use Rattle.rules.specs.Jobs.{Verdict, checkJob, Found, lookUpJob}
+use Rattle.rules.specs.Jobs.{checkJob, Found, lookUpJob}
 use Rattle.rules.specs.Cases.{bytes, num, str, arr, obj, refusal, resolvesTo, Case, case, outcome}
 
 -- ---- resolutions
@@ -38,6 +38,10 @@ references =
     ∷ case "bar : { a : ${foo.d}, b : 1 }\nbar.b = 3\nfoo : { c : ${bar.b}, d : 2 }\nfoo.d = 4"
     (resolvesTo ((0, some (num "4")) ∷ (1, some (num "3")) ∷ [])
     (obj (("bar", obj (("a", num "4") ∷ ("b", num "3") ∷ [])) ∷ ("foo", obj (("c", num "3") ∷ ("d", num "4") ∷ [])) ∷ [])))
+    -- three are begun, each once
+    ∷ case "a=${b},b=${c},c=${d},d=1"
+    (resolvesTo ((2, some (num "1")) ∷ (1, some (num "1")) ∷ (0, some (num "1")) ∷ [])
+    (obj (("a", num "1") ∷ ("b", num "1") ∷ ("c", num "1") ∷ ("d", num "1") ∷ [])))
     -- circles
     ∷ case "a : { b : ${a} }" (refusal 10 10)
     ∷ case "a : ${b}\nb : ${c}\nc : ${a}" (refusal 10 4)

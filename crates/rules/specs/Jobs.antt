@@ -6,15 +6,15 @@ use mathlib.Core.Option.{Option, none, some}
 use lib.Dec.{leb}
 use lib.ListN.{length, replicate}
 use Rattle.answers.specs.Ask.{Trail}
-use Rattle.answers.specs.Resolve.{Rules, Res, answer, stop, dry, resolve}
+use Rattle.answers.specs.Resolve.{Rules, Res, answer, refused, dry, resolve}
 use Rattle.rules.specs.Sizes.{maxBudget, maxPathText, maxNesting, maxRoom}
 use Rattle.rules.specs.Bytes.{Text}
-use Rattle.rules.specs.Refusals.{Refusal, placed, nowhere, spent, numberOf, placeOf, Scan, ok, fail}
+use Rattle.rules.specs.Refusals.{Refusal, placed, nowhere, spent, numberOf, placeOf, Scan, ok, refused}
 use Rattle.rules.specs.Utf8.{illFormed}
 use Rattle.rules.specs.Paths.{pathText}
 use Rattle.rules.specs.Values.{Value, Answer, withinSize}
 use Rattle.rules.specs.Unresolved.{rootValue}
-use Rattle.rules.specs.Documents.{Setting, Input, given, denied, inputs, ruleOf, countOf, firstByte}
+use Rattle.rules.specs.Documents.{Setting, Input, valid, refused, inputs, ruleOf, countOf, firstByte}
 use Rattle.rules.specs.Sheet.{records, texts, trailTextSize, trailRecords, trailTexts, trailFits, tableFits}
 use Rattle.rules.specs.Checking.{accepted}
 use Rattle.rules.specs.LookUp.{isWhole, afterValue, valueNamed}
@@ -40,7 +40,7 @@ roomOf length = min length maxRoom
 
 -- "A needed blend is taken from the trail; else 10; else 12; else it is begun, and when answered becomes the next entry." "loops of
 -- optional names are 10 too".
-unfoldable pub orderOf : Setting → ℕ → ℕ → Rules Refusal Answer
+unfoldable pub orderOf : (x : Setting) (trailRoom textRoom : ℕ) → Rules Refusal Answer
 unfolding ruleOf firstByte trailFits
 orderOf x trailRoom textRoom = record {
   rule = ruleOf x;
@@ -62,9 +62,9 @@ sheetFor v S n = record {
 }
 
 -- "After the trail, the table's size is tested (13), then it is written (14)."
-unfoldable pub handedBack : ℕ → ℕ → Res Refusal Answer Value → Resolved
+unfoldable pub handedBack : (tableRoom textRoom : ℕ) (m : Res Refusal Answer Value) → Resolved
 unfolding withinSize tableFits refusedWith records texts trailTextSize trailRecords trailTexts
-handedBack tableRoom textRoom (stop x) = refusedWith x
+handedBack tableRoom textRoom (refused x) = refusedWith x
 handedBack tableRoom textRoom dry = refusedWith spent
 handedBack tableRoom textRoom (answer v S n) =
     elim (withinSize v) [
@@ -72,14 +72,14 @@ handedBack tableRoom textRoom (answer v S n) =
       | true ↦ elim (tableFits tableRoom textRoom S v) [ false ↦ refusedWith (nowhere 14) | true ↦ sheetFor v S n ]
     ]
 
-unfoldable pub resolved : ℕ → ℕ → ℕ → ℕ → Input Setting → Resolved
+unfoldable pub resolved : (budget trailRoom tableRoom textRoom : ℕ) (i : Input Setting) → Resolved
 unfolding refusedWith orderOf rootValue handedBack
-resolved budget trailRoom tableRoom textRoom (denied x) = refusedWith x
-resolved budget trailRoom tableRoom textRoom (given x) =
+resolved budget trailRoom tableRoom textRoom (refused x) = refusedWith x
+resolved budget trailRoom tableRoom textRoom (valid x) =
     handedBack tableRoom textRoom
     (resolve (orderOf x trailRoom textRoom) budget (rootValue (x .document .root) (x .environment)) (countOf x))
 
-unfoldable pub resolveJob : List ℕ → List ℕ → ℕ → ℕ → ℕ → ℕ → Resolved
+unfoldable pub resolveJob : (document environment : List ℕ) (budget trailLength tableLength textLength : ℕ) → Resolved
 unfolding inputs resolved
 resolveJob document environment budget trailLength tableLength textLength =
     resolved budget (roomOf trailLength) (roomOf tableLength) (roomOf textLength)
@@ -95,7 +95,7 @@ pub record Buffers : Type 0 where
   pub table : List ℕ
   pub text : List ℕ
 
-unfoldable pub buffersOf : ℕ → ℕ → ℕ → Resolved → Buffers
+unfoldable pub buffersOf : (trailLength tableLength textLength : ℕ) (r : Resolved) → Buffers
 unfolding filled
 buffersOf trailLength tableLength textLength r = record {
   trail = filled trailLength (r .trail);
@@ -110,14 +110,14 @@ pub record Verdict : Type 0 where
   pub number : ℕ
   pub place : ℕ
 
-unfoldable pub verdict : List ℕ → List ℕ → List ℕ → Input Setting → Verdict
+unfoldable pub verdict : (trail table text : List ℕ) (i : Input Setting) → Verdict
 unfolding accepted
-verdict trail table text (denied x) = record { number = numberOf x; place = placeOf x }
-verdict trail table text (given x) =
+verdict trail table text (refused x) = record { number = numberOf x; place = placeOf x }
+verdict trail table text (valid x) =
     elim (accepted x trail table text) [ true ↦ record { number = 0; place = 0 } | false ↦ record { number = 17; place = 0 } ]
 
 -- "a part of a sheet, lent to check or look-up, is over 32,768 bytes" is number 1
-unfoldable pub checkJob : List ℕ → List ℕ → List ℕ → List ℕ → List ℕ → Verdict
+unfoldable pub checkJob : (document environment trail table text : List ℕ) → Verdict
 unfolding inputs verdict
 checkJob document environment trail table text =
     verdict trail table text
@@ -135,23 +135,27 @@ pub record Found : Type 0 where
 unfoldable pub notFound : Refusal → Found
 notFound x = record { number = numberOf x; place = placeOf x; start = 0; size = 0 }
 
+-- a part of the table
+abbrev pub partAt : (start size : ℕ) → Found
+partAt start size = record { number = 0; place = 0; start = start; size = size }
+
 -- "path names nothing" is 16
-unfoldable pub foundAt : List ℕ → List ℕ → Option ℕ → Found
+unfoldable pub foundAt : (table text : List ℕ) (place : Option ℕ) → Found
 unfolding afterValue notFound
 foundAt table text none = notFound (nowhere 16)
 foundAt table text (some at) =
     elim (afterValue maxNesting table (length text) at) [
       | none ↦ notFound spent
-      | some end ↦ record { number = 0; place = 0; start = at; size = end - at }
+      | some end ↦ partAt at (end - at)
     ]
 
-unfoldable pub lookedUp : List ℕ → List ℕ → Scan (List Text) → Found
+unfoldable pub lookedUp : (table text : List ℕ) (path : Scan (List Text)) → Found
 unfolding notFound foundAt valueNamed
-lookedUp table text (fail x) = notFound x
+lookedUp table text (refused x) = notFound x
 lookedUp table text (ok path end) = foundAt table text (valueNamed table text path 0)
 
 -- "Look up: 1, 15, then 2 to 8 on the path text (6 is not given there), then 16."
-unfoldable pub lookUpJob : List ℕ → List ℕ → List ℕ → Found
+unfoldable pub lookUpJob : (table text path : List ℕ) → Found
 unfolding isWhole illFormed pathText notFound lookedUp
 lookUpJob table text path =
     elim (leb (length table) maxRoom && leb (length text) maxRoom && leb (length path) maxPathText) [

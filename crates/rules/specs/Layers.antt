@@ -3,7 +3,7 @@ use Prim.Native.Nat.{ℕ, zero, suc}
 use mathlib.Core.List.{List, [], _∷_, _++_, reverse}
 use mathlib.Core.Bool.{Bool, true, false}
 use mathlib.Core.Option.{none, some}
-use Rattle.answers.specs.Ask.{Ask, done, refuse, need, bind}
+use Rattle.answers.specs.Ask.{Ask, done, refused, need, bind}
 use Rattle.rules.specs.Bytes.{Text, same}
 use Rattle.rules.specs.Refusals.{Refusal, spent}
 use Rattle.rules.specs.Tree.{Node, simple, array, object, unresolved, Elements, no-elements, element, Fields, no-fields, field}
@@ -197,8 +197,8 @@ module _ (eval : Layers → Work Answer) where
   countedValue (merged os) = bind (mergedOf os) (λ v. done (some v))
 
 -- The value of a path, from its layers. The depth bounds how far values go down inside one another, and is never used up (module
--- Resolving of Theory).
+-- Resolving of `theory`).
 unfoldable pub valueOf : ℕ → Layers → Work Answer
 unfolding gather countedValue
-valueOf zero ls = refuse spent
+valueOf zero ls = refused spent
 valueOf (suc depth) ls = bind (gather ls []) (λ c. countedValue (valueOf depth) c)

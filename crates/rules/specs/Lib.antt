@@ -1,5 +1,7 @@
 pub mod Sizes
 pub mod Bytes
+pub mod Ascii
+pub mod Kinds
 pub mod Refusals
 pub mod Utf8
 pub mod Environment
@@ -14,14 +16,15 @@ pub mod Values
 pub mod Layers
 pub mod Unresolved
 pub mod Documents
+pub mod Settled
+pub mod Weights
 pub mod Sheet
 pub mod Checking
 pub mod Meaning
 pub mod LookUp
+pub mod NamedValues
 pub mod Jobs
 pub mod Counting
 pub mod Reordering
 pub mod Cases
 pub mod Examples
-pub mod Theory
-pub mod Demands

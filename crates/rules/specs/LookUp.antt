@@ -8,10 +8,11 @@ use lib.ListN.{length}
 use lib.Seq.{slice}
 use Rattle.rules.specs.Sizes.{maxNesting}
 use Rattle.rules.specs.Bytes.{Text, byteAt, within, same}
+use Rattle.rules.specs.Kinds as kinds
 use Rattle.rules.specs.Sheet.{pairAt}
 
 -- a record that refers to a text: of this kind, and "each text inside the lent text part"
-unfoldable pub afterText : List ℕ → ℕ → ℕ → ℕ → Option ℕ
+unfoldable pub afterText : (table : List ℕ) (textLength kind at : ℕ) → Option ℕ
 unfolding pairAt
 afterText table textLength kind at =
     elim (leb (at + 5) (length table) && eqb (byteAt table at) kind && leb (pairAt table (at + 1) + pairAt table (at + 3)) textLength) [
@@ -20,31 +21,34 @@ afterText table textLength kind at =
     ]
 
 -- so many members, one after the other; of an object each has its key first
-unfoldable pub afterMembers : Bool → (ℕ → Option ℕ) → List ℕ → ℕ → ℕ → ℕ → Option ℕ
+unfoldable pub afterMembers : (keyed : Bool) (after : ℕ → Option ℕ) (table : List ℕ) (textLength count at : ℕ) → Option ℕ
 unfolding afterText
 afterMembers keyed after table textLength zero at = some at
 afterMembers keyed after table textLength (suc n) at =
     let value : ℕ → Option ℕ = λ p. elim (after p) [ none ↦ none | some q ↦ afterMembers keyed after table textLength n q ] in
     elim keyed [
       | false ↦ value at
-      | true ↦ elim (afterText table textLength 8 at) [ none ↦ none | some p ↦ value p ]
+      | true ↦ elim (afterText table textLength kinds.key at) [ none ↦ none | some p ↦ value p ]
     ]
 
 -- A record that has no members: its end, or nothing where there is none whole; a container is handed on.
-unfoldable pub afterRecord : List ℕ → ℕ → ℕ → (Bool → Option ℕ) → Option ℕ
+unfoldable pub afterRecord : (table : List ℕ) (textLength at : ℕ) (container : Bool → Option ℕ) → Option ℕ
 unfolding afterText
 afterRecord table textLength at container =
     let kind = byteAt table at in
-    elim (within 1 3 kind) [
+    elim (within kinds.null kinds.true kind) [
       | true ↦ some (at + 1)
-      | false ↦ elim (within 4 5 kind) [
+      | false ↦ elim (within kinds.number kinds.string kind) [
         | true ↦ afterText table textLength kind at
-        | false ↦ elim (within 6 7 kind && leb (at + 3) (length table)) [ true ↦ container (eqb kind 7) | false ↦ none ]
+        | false ↦ elim (within kinds.array kinds.object kind && leb (at + 3) (length table)) [
+          | true ↦ container (eqb kind kinds.object)
+          | false ↦ none
+        ]
       ]
     ]
 
 -- "one record's end is found from the ends of those inside it"; the first number is how many containers may stand inside one another
-unfoldable pub afterValue : ℕ → List ℕ → ℕ → ℕ → Option ℕ
+unfoldable pub afterValue : (levels : ℕ) (table : List ℕ) (textLength at : ℕ) → Option ℕ
 unfolding afterRecord afterMembers pairAt
 afterValue zero table textLength at = afterRecord table textLength at (λ keyed. none)
 afterValue (suc levels) table textLength at =
@@ -53,17 +57,17 @@ afterValue (suc levels) table textLength at =
 
 -- "One whole table is one record of kind 1 to 7 with its members, nested at most 32, each text inside the lent text part, nothing after
 -- it; its texts need not be UTF-8."
-unfoldable pub isWhole : List ℕ → ℕ → Bool
+unfoldable pub isWhole : (table : List ℕ) (textLength : ℕ) → Bool
 unfolding afterValue
 isWhole table textLength = elim (afterValue maxNesting table textLength 0) [ none ↦ false | some end ↦ eqb end (length table) ]
 
 -- the text that a record refers to
-unfoldable pub textAt : List ℕ → List ℕ → ℕ → Text
+unfoldable pub textAt : (table text : List ℕ) (at : ℕ) → Text
 unfolding pairAt
 textAt table text at = let offset = pairAt table (at + 1) in slice offset (offset + pairAt table (at + 3)) text
 
 -- "A lent table with equal keys answers by the first": the place of that key's value among so many members
-unfoldable pub memberFrom : ℕ → List ℕ → List ℕ → Text → ℕ → Option ℕ
+unfoldable pub memberFrom : (count : ℕ) (table text : List ℕ) (key : Text) (at : ℕ) → Option ℕ
 unfolding textAt afterValue same
 memberFrom zero table text key at = none
 memberFrom (suc n) table text key at =
@@ -72,13 +76,13 @@ memberFrom (suc n) table text key at =
       | false ↦ elim (afterValue maxNesting table (length text) (at + 5)) [ none ↦ none | some q ↦ memberFrom n table text key q ]
     ]
 
-unfoldable pub memberAt : List ℕ → List ℕ → Text → ℕ → Option ℕ
+unfoldable pub memberAt : (table text : List ℕ) (key : Text) (at : ℕ) → Option ℕ
 unfolding memberFrom pairAt
 memberAt table text key at =
-    elim (eqb (byteAt table at) 7) [ true ↦ memberFrom (pairAt table (at + 1)) table text key (at + 3) | false ↦ none ]
+    elim (eqb (byteAt table at) kinds.object) [ true ↦ memberFrom (pairAt table (at + 1)) table text key (at + 3) | false ↦ none ]
 
 -- the place of the value that a path names, from a value on
-unfoldable pub valueNamed : List ℕ → List ℕ → List Text → ℕ → Option ℕ
+unfoldable pub valueNamed : (table text : List ℕ) (path : List Text) (at : ℕ) → Option ℕ
 unfolding memberAt
 valueNamed table text [] at = some at
 valueNamed table text (k ∷ ks) at = elim (memberAt table text k at) [ none ↦ none | some p ↦ valueNamed table text ks p ]

@@ -10,15 +10,19 @@ use lib.ListN.{length}
 use lib.Seq.{slice}
 use Rattle.answers.specs.Ask.{mem}
 use Rattle.rules.specs.Bytes.{Text, byteAt, same, skip}
-use Rattle.rules.specs.Refusals.{placed, Scan, ok, fail, andThen}
-use Rattle.rules.specs.Characters.{noCharacter, next, characterAt, isSpace, startsComment}
+use Rattle.rules.specs.Ascii as ascii
+use Rattle.rules.specs.Refusals.{placed, Scan, ok, refused, andThen}
+use Rattle.rules.specs.Characters.{noCharacter, nextPlace, characterAt, isSpace, startsComment}
 use Rattle.rules.specs.Numbers.{isDigit, afterNumber}
 use Rattle.rules.specs.Strings.{quotedAt}
 use Rattle.rules.specs.Tree.{Scalar, null, boolean, number, string}
 
 -- `$ " { } [ ] : = , + # ` ^ ? ! @ * & \`
 abbrev pub forbidden : List ℕ
-forbidden = 36 ∷ 34 ∷ 123 ∷ 125 ∷ 91 ∷ 93 ∷ 58 ∷ 61 ∷ 44 ∷ 43 ∷ 35 ∷ 96 ∷ 94 ∷ 63 ∷ 33 ∷ 64 ∷ 42 ∷ 38 ∷ 92 ∷ []
+forbidden =
+    ascii.dollar ∷ ascii.quote ∷ ascii.openBrace ∷ ascii.closeBrace ∷ ascii.openBracket ∷ ascii.closeBracket
+    ∷ ascii.colon ∷ ascii.equals ∷ ascii.comma ∷ ascii.plus ∷ ascii.hash ∷ ascii.backquote
+    ∷ ascii.caret ∷ ascii.question ∷ ascii.exclamation ∷ ascii.at ∷ ascii.asterisk ∷ ascii.ampersand ∷ ascii.backslash ∷ []
 
 -- unquoted text goes no further than this place
 unfoldable pub stopsUnquoted : List ℕ → ℕ → Bool
@@ -32,13 +36,13 @@ stopsUnquoted s at =
 
 -- the place after unquoted text
 unfoldable pub unquotedEnd : List ℕ → ℕ → ℕ
-unfolding skip stopsUnquoted next
-unquotedEnd s at = skip (λ p. not (stopsUnquoted s p)) (next s) (length s) at
+unfolding skip stopsUnquoted nextPlace
+unquotedEnd s at = skip (λ p. not (stopsUnquoted s p)) (nextPlace s) (length s) at
 
 -- a simple piece begins here
 unfoldable pub startsSimple : List ℕ → ℕ → Bool
 unfolding stopsUnquoted
-startsSimple s at = elim (eqb (byteAt s at) 34) [ true ↦ true | false ↦ not (stopsUnquoted s at) ]
+startsSimple s at = elim (eqb (byteAt s at) ascii.quote) [ true ↦ true | false ↦ not (stopsUnquoted s at) ]
 
 -- a simple piece: what it is, and whether it stands in quotes
 pub record Token : Type 0 where
@@ -49,16 +53,16 @@ abbrev pub token : Bool → Scalar → Token
 token q x = record { inQuotes = q; scalar = x }
 
 abbrev pub wordTrue : Text
-wordTrue = 116 ∷ 114 ∷ 117 ∷ 101 ∷ []
+wordTrue = ascii.t ∷ ascii.r ∷ ascii.u ∷ ascii.e ∷ []
 
 abbrev pub wordFalse : Text
-wordFalse = 102 ∷ 97 ∷ 108 ∷ 115 ∷ 101 ∷ []
+wordFalse = ascii.f ∷ ascii.a ∷ ascii.l ∷ ascii.s ∷ ascii.e ∷ []
 
 abbrev pub wordNull : Text
-wordNull = 110 ∷ 117 ∷ 108 ∷ 108 ∷ []
+wordNull = ascii.n ∷ ascii.u ∷ ascii.l ∷ ascii.l ∷ []
 
 -- the text begins at the place
-unfoldable pub startsWith : Text → List ℕ → ℕ → Bool
+unfoldable pub startsWith : (word : Text) (s : List ℕ) (at : ℕ) → Bool
 unfolding same
 startsWith word s at = same (slice at (at + length word) s) word
 
@@ -80,15 +84,15 @@ unquotedAt s at =
 unfoldable pub numberAt : List ℕ → ℕ → Scan Token
 unfolding afterNumber
 numberAt s at =
-    elim (afterNumber s at) [ none ↦ fail (placed 5 at) | some end ↦ ok (token false (number (slice at end s))) end ]
+    elim (afterNumber s at) [ none ↦ refused (placed 5 at) | some end ↦ ok (token false (number (slice at end s))) end ]
 
 -- the simple piece at a place where one begins
 unfoldable pub simpleAt : List ℕ → ℕ → Scan Token
 unfolding quotedAt numberAt unquotedAt
 simpleAt s at =
-    elim (eqb (byteAt s at) 34) [
+    elim (eqb (byteAt s at) ascii.quote) [
       | true ↦ andThen (quotedAt s at) (λ t end. ok (token true (string t)) end)
-      | false ↦ elim (isDigit (byteAt s at) || eqb (byteAt s at) 45) [ true ↦ numberAt s at | false ↦ unquotedAt s at ]
+      | false ↦ elim (isDigit (byteAt s at) || eqb (byteAt s at) ascii.minus) [ true ↦ numberAt s at | false ↦ unquotedAt s at ]
     ]
 
 -- the text of a simple value in a join, "numbers as written"

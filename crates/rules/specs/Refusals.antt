@@ -1,6 +1,6 @@
 -- Document 01, "Numbers and places": refusals, and readings that may end in one.
 use Prim.Native.Nat.{ℕ}
-use mathlib.Core.List.{List}
+use mathlib.Core.List.{List, [], _∷_}
 use mathlib.Core.Bool.{true, false}
 use lib.Dec.{leb}
 use lib.ListN.{length}
@@ -13,7 +13,7 @@ use lib.ListN.{length}
 --  5 `-` starting no number: Pieces.numberAt; a bad escape or lone surrogate: Strings.escapeAt; a control byte: Strings.bodyFrom
 --  6 a key that starts with `include`: Reading.fieldAt
 --  7 a substitution in a key: Paths.segmentsFrom; an empty path or path element: Paths.judge
---  8 too many items: Reading.counted; too deep: Reading.opened; too many key or path elements: Paths.judge; too many unresolved values:
+--  8 too many items: Reading.countItem; too deep: Reading.opened; too many key or path elements: Paths.judge; too many unresolved values:
 --    Documents.limited
 --  9 a required substitution that is undefined: Unresolved.orEnvironment
 -- 10 an unresolved value needed while it is worked out: Jobs.orderOf
@@ -25,10 +25,22 @@ use lib.ListN.{length}
 -- 16 a path that names nothing: Jobs.foundAt
 -- 17 a sheet that is not accepted: Jobs.verdict
 
+-- which of them each job gives (docs/DECISIONS.md, R3 and R43)
+abbrev pub resolveNumbers : List ℕ
+resolveNumbers = 1 ∷ 2 ∷ 3 ∷ 4 ∷ 5 ∷ 6 ∷ 7 ∷ 8 ∷ 9 ∷ 10 ∷ 11 ∷ 12 ∷ 13 ∷ 14 ∷ []
+
+-- "1 to 8 and a reading 11 as in resolve, else 17"
+abbrev pub checkNumbers : List ℕ
+checkNumbers = 1 ∷ 2 ∷ 3 ∷ 4 ∷ 5 ∷ 6 ∷ 7 ∷ 8 ∷ 11 ∷ 17 ∷ []
+
+-- "Look up: 1, 15, then 2 to 8 on the path text (6 is not given there), then 16."
+abbrev pub lookUpNumbers : List ℕ
+lookUpNumbers = 1 ∷ 2 ∷ 3 ∷ 4 ∷ 5 ∷ 7 ∷ 8 ∷ 15 ∷ 16 ∷ []
+
 -- A refusal has its number, and a place in what is read or none (place 0 by the paper's table).
 pub data Refusal : Type 0 where
-  placed : ℕ → ℕ → Refusal
-  nowhere : ℕ → Refusal
+  placed : (number place : ℕ) → Refusal
+  nowhere : (number : ℕ) → Refusal
 
 abbrev pub numberOf : Refusal → ℕ
 numberOf (placed number place) = number
@@ -39,7 +51,7 @@ placeOf (placed number place) = place
 placeOf (nowhere number) = 0
 
 -- What a definition gives where its fuel runs out. The paper has no number 0, and no job gives this refusal (modules ReadingEnds,
--- Resolving and LookUps of Theory).
+-- Resolving and LookUps of `theory`).
 abbrev pub spent : Refusal
 spent = nowhere 0
 
@@ -53,23 +65,23 @@ notAllowed s at = elim (leb (length s) at) [ true ↦ ended s | false ↦ placed
 
 -- what a reading gives: a thing and the place after it, or a refusal
 pub data Scan (A : Type 0) : Type 0 where
-  ok : A → ℕ → Scan A
-  fail : Refusal → Scan A
+  ok : (a : A) (at : ℕ) → Scan A
+  refused : Refusal → Scan A
 
-abbrev pub andThen : {A B : Type 0} → Scan A → (A → ℕ → Scan B) → Scan B
+abbrev pub andThen : {A B : Type 0} → Scan A → ((a : A) (at : ℕ) → Scan B) → Scan B
 andThen (ok a at) k = k a at
-andThen (fail x) k = fail x
+andThen (refused x) k = refused x
 
 -- the same with the count of items so far
 pub data Read (A : Type 0) : Type 0 where
-  got : A → ℕ → ℕ → Read A
-  rejected : Refusal → Read A
+  got : (a : A) (at items : ℕ) → Read A
+  refused : Refusal → Read A
 
-abbrev pub readThen : {A B : Type 0} → Read A → (A → ℕ → ℕ → Read B) → Read B
+abbrev pub readThen : {A B : Type 0} → Read A → ((a : A) (at items : ℕ) → Read B) → Read B
 readThen (got a at items) k = k a at items
-readThen (rejected x) k = rejected x
+readThen (refused x) k = refused x
 
--- a reading that counts nothing, among those that do
-abbrev pub counting : {A : Type 0} → ℕ → Scan A → Read A
-counting items (ok a at) = got a at items
-counting items (fail x) = rejected x
+-- a reading that counts nothing, among those that do: the count of items stays
+abbrev pub keepItems : {A : Type 0} (items : ℕ) → Scan A → Read A
+keepItems items (ok a at) = got a at items
+keepItems items (refused x) = refused x

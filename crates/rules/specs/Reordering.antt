@@ -3,10 +3,10 @@ use mathlib.Core.Path.{_≡_}
 use Prim.Native.Nat.{ℕ, _<_}
 use mathlib.Core.List.{List, [], _∷_, _++_, map}
 use mathlib.Core.Bool.{true}
-use Rattle.answers.specs.Ask.{refuse, needs, Trail, lookup, mem}
+use Rattle.answers.specs.Ask.{refused, needs, Trail, lookup, mem}
 use Rattle.rules.specs.Values.{Value, Answer}
 use Rattle.rules.specs.Layers.{Work}
-use Rattle.rules.specs.Documents.{Setting, Input, given, denied, inputs, ruleOf}
+use Rattle.rules.specs.Documents.{Setting, Input, valid, refused, inputs, ruleOf}
 use Rattle.rules.specs.Sheet.{records, texts, trailTextSize, trailRecords, trailTexts}
 
 -- the numbers of a trail's entries
@@ -30,7 +30,7 @@ pub data Permuted {A : Type 0} : List A → List A → Type 0 where
   next : {l m n : List A} → Permuted l m → Permuted m n → Permuted l n
 
 -- The second sheet is a reordering of the first. What the entries and the root's value are, the first sheet's bytes tell
--- (Demands, sheet-determines).
+-- (`sheet-determines` in Demands of `theory`).
 pub record Reordering (trail table text trail′ table′ text′ : List ℕ) : Type 0 where
   pub entries : Trail Answer
   pub entries′ : Trail Answer
@@ -43,8 +43,8 @@ pub record Reordering (trail table text trail′ table′ text′ : List ℕ) : 
 
 -- the rules of the unresolved value of a number, where the inputs are not refused
 abbrev pub rulesIn : Input Setting → ℕ → Work Answer
-rulesIn (given x) b = ruleOf x b
-rulesIn (denied y) b = refuse y
+rulesIn (valid x) b = ruleOf x b
+rulesIn (refused y) b = refused y
 
 module _ (document environment : List ℕ) where
   -- the numbers that one needs, where answers are taken from S

@@ -8,6 +8,7 @@ use lib.Dec.{leb}
 use lib.ListN.{length}
 use Rattle.answers.specs.Ask.{Trail}
 use Rattle.rules.specs.Bytes.{Text, byteAt}
+use Rattle.rules.specs.Kinds as kinds
 use Rattle.rules.specs.Tree.{Scalar, null, boolean, number, string}
 use Rattle.rules.specs.Values.{Value, scalar, arrayOf, objectOf, Values, no-values, val, Members, no-members, member, Answer, countValues, countMembers, ownText, recordSize, textSize}
 
@@ -20,18 +21,18 @@ unfoldable pub pairAt : List ℕ → ℕ → ℕ
 pairAt s at = byteAt s at * 256 + byteAt s (at + 1)
 
 -- "4 number, 5 string, 8 key: text offset 2, length 2"
-unfoldable pub textRecord : ℕ → ℕ → Text → List ℕ
+unfoldable pub textRecord : (kind offset : ℕ) (t : Text) → List ℕ
 unfolding two
 textRecord kind offset t = kind ∷ two offset ++ two (length t)
 
 -- "1 null, 2 false, 3 true: none"
 unfoldable pub scalarRecord : ℕ → Scalar → List ℕ
 unfolding textRecord
-scalarRecord offset null = 1 ∷ []
-scalarRecord offset (boolean false) = 2 ∷ []
-scalarRecord offset (boolean true) = 3 ∷ []
-scalarRecord offset (number t) = textRecord 4 offset t
-scalarRecord offset (string t) = textRecord 5 offset t
+scalarRecord offset null = kinds.null ∷ []
+scalarRecord offset (boolean false) = kinds.false ∷ []
+scalarRecord offset (boolean true) = kinds.true ∷ []
+scalarRecord offset (number t) = textRecord kinds.number offset t
+scalarRecord offset (string t) = textRecord kinds.string offset t
 
 -- a value's records, its texts laid from an offset on: "6 array, 7 object: member count 2, members following; an object's are key
 -- then value"
@@ -40,8 +41,8 @@ unfoldable mutual
 
   pub records : ℕ → Value → List ℕ
   records offset (scalar x) = scalarRecord offset x
-  records offset (arrayOf vs) = 6 ∷ two (countValues vs) ++ valueRecords offset vs
-  records offset (objectOf ms) = 7 ∷ two (countMembers ms) ++ memberRecords offset ms
+  records offset (arrayOf vs) = kinds.array ∷ two (countValues vs) ++ valueRecords offset vs
+  records offset (objectOf ms) = kinds.object ∷ two (countMembers ms) ++ memberRecords offset ms
 
   pub valueRecords : ℕ → Values → List ℕ
   valueRecords offset no-values = []
@@ -50,7 +51,7 @@ unfoldable mutual
   pub memberRecords : ℕ → Members → List ℕ
   memberRecords offset no-members = []
   memberRecords offset (member k v ms) =
-      textRecord 8 offset k ++ records (offset + length k) v ++ memberRecords (offset + length k + textSize v) ms
+      textRecord kinds.key offset k ++ records (offset + length k) v ++ memberRecords (offset + length k + textSize v) ms
 
 -- its texts, in order
 unfoldable mutual
@@ -72,10 +73,10 @@ unfoldable mutual
 -- ---- the trail: entries of a number and an answer, in the order in which they were answered; here the newest first
 
 -- "9 entry: blend number 2, answer following", "10 undefined entry: blend number 2"
-unfoldable pub entryRecord : ℕ → ℕ → Answer → List ℕ
+unfoldable pub entryRecord : (offset b : ℕ) (a : Answer) → List ℕ
 unfolding two records
-entryRecord offset b none = 10 ∷ two b
-entryRecord offset b (some v) = 9 ∷ two b ++ records offset v
+entryRecord offset b none = kinds.undefinedEntry ∷ two b
+entryRecord offset b (some v) = kinds.entry ∷ two b ++ records offset v
 
 unfoldable pub answerTexts : Answer → Text
 unfolding texts
@@ -116,10 +117,10 @@ trailTexts (e ∷ S) = trailTexts S ++ answerTexts (e .1)
 -- ---- rooms
 
 -- "trail entry, table or text does not fit its room" otherwise
-unfoldable pub trailFits : ℕ → ℕ → Trail Answer → Bool
+unfoldable pub trailFits : (trailRoom textRoom : ℕ) (S : Trail Answer) → Bool
 unfolding trailSize trailTextSize
 trailFits trailRoom textRoom S = leb (trailSize S) trailRoom && leb (trailTextSize S) textRoom
 
-unfoldable pub tableFits : ℕ → ℕ → Trail Answer → Value → Bool
+unfoldable pub tableFits : (tableRoom textRoom : ℕ) (S : Trail Answer) (v : Value) → Bool
 unfolding trailTextSize recordSize textSize
 tableFits tableRoom textRoom S v = leb (recordSize v) tableRoom && leb (trailTextSize S + textSize v) textRoom

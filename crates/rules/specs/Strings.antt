@@ -9,37 +9,38 @@ use lib.Dec.{leb, ltb, eqb}
 use lib.ListN.{length}
 use lib.Seq.{slice}
 use Rattle.rules.specs.Bytes.{Text, byteAt, within, skip}
-use Rattle.rules.specs.Refusals.{placed, spent, ended, Scan, ok, fail, andThen}
+use Rattle.rules.specs.Ascii as ascii
+use Rattle.rules.specs.Refusals.{placed, spent, ended, Scan, ok, refused, andThen}
 use Rattle.rules.specs.Utf8.{encoded}
-use Rattle.rules.specs.Characters.{next}
+use Rattle.rules.specs.Characters.{nextPlace}
 
--- the value of a hexadecimal digit
+-- the value of a hexadecimal digit; that of `A` and of `a` is 10
 unfoldable pub hexDigit : ℕ → Option ℕ
 hexDigit b =
-    elim (within 48 57 b) [
-      | true ↦ some (b - 48)
-      | false ↦ elim (within 65 70 b) [
+    elim (within ascii.zero ascii.nine b) [
+      | true ↦ some (b - ascii.zero)
+      | false ↦ elim (within ascii.capitalA ascii.capitalF b) [
         | true ↦ some (b - 55)
-        | false ↦ elim (within 97 102 b) [ true ↦ some (b - 87) | false ↦ none ]
+        | false ↦ elim (within ascii.a ascii.f b) [ true ↦ some (b - 87) | false ↦ none ]
       ]
     ]
 
 -- so many hexadecimal digits more, behind the value so far; `first` is the place of the escape
-unfoldable pub hexFrom : ℕ → List ℕ → ℕ → ℕ → ℕ → Scan ℕ
+unfoldable pub hexFrom : (digits : ℕ) (s : List ℕ) (first so-far at : ℕ) → Scan ℕ
 unfolding hexDigit
 hexFrom zero s first so-far at = ok so-far at
 hexFrom (suc n) s first so-far at =
     elim (leb (length s) at) [
-      | true ↦ fail (ended s)
-      | false ↦ elim (hexDigit (byteAt s at)) [ none ↦ fail (placed 5 first) | some d ↦ hexFrom n s first (so-far * 16 + d) (at + 1) ]
+      | true ↦ refused (ended s)
+      | false ↦ elim (hexDigit (byteAt s at)) [ none ↦ refused (placed 5 first) | some d ↦ hexFrom n s first (so-far * 16 + d) (at + 1) ]
     ]
 
 -- one certain byte
-unfoldable pub expect : ℕ → List ℕ → ℕ → ℕ → Scan ℕ
+unfoldable pub expect : (b : ℕ) (s : List ℕ) (first at : ℕ) → Scan ℕ
 expect b s first at =
     elim (leb (length s) at) [
-      | true ↦ fail (ended s)
-      | false ↦ elim (eqb (byteAt s at) b) [ true ↦ ok b (at + 1) | false ↦ fail (placed 5 first) ]
+      | true ↦ refused (ended s)
+      | false ↦ elim (eqb (byteAt s at) b) [ true ↦ ok b (at + 1) | false ↦ refused (placed 5 first) ]
     ]
 
 abbrev pub isHigh : ℕ → Bool
@@ -49,40 +50,43 @@ abbrev pub isLow : ℕ → Bool
 isLow unit = within 56320 57343 unit
 
 -- a surrogate pair's character
-abbrev pub paired : ℕ → ℕ → ℕ
+abbrev pub paired : (high low : ℕ) → ℕ
 paired high low = 65536 + (high - 55296) * 1024 + (low - 56320)
 
 -- the mate of a high surrogate: `\u` and four digits that give a low one
-unfoldable pub mateOf : List ℕ → ℕ → ℕ → ℕ → Scan Text
+unfoldable pub mateOf : (s : List ℕ) (first high at : ℕ) → Scan Text
 unfolding expect hexFrom encoded
 mateOf s first high at =
-    andThen (expect 92 s first at) (λ b p.
-    andThen (expect 117 s first p) (λ c q.
+    andThen (expect ascii.backslash s first at) (λ b p.
+    andThen (expect ascii.u s first p) (λ c q.
     andThen (hexFrom 4 s first 0 q) (λ low end.
-    elim (isLow low) [ true ↦ ok (encoded (paired high low)) end | false ↦ fail (placed 5 first) ])))
+    elim (isLow low) [ true ↦ ok (encoded (paired high low)) end | false ↦ refused (placed 5 first) ])))
 
 -- behind `\u`
-unfoldable pub unicodeEscape : List ℕ → ℕ → ℕ → Scan Text
+unfoldable pub unicodeEscape : (s : List ℕ) (first at : ℕ) → Scan Text
 unfolding hexFrom mateOf encoded
 unicodeEscape s first at =
     andThen (hexFrom 4 s first 0 at) (λ unit p.
     elim (isLow unit) [
-      | true ↦ fail (placed 5 first)
+      | true ↦ refused (placed 5 first)
       | false ↦ elim (isHigh unit) [ true ↦ mateOf s first unit p | false ↦ ok (encoded unit) p ]
     ])
 
 -- what a one-letter escape stands for
 unfoldable pub letterEscape : ℕ → Option ℕ
 letterEscape b =
-    elim (eqb b 34 || eqb b 92 || eqb b 47) [
+    elim (eqb b ascii.quote || eqb b ascii.backslash || eqb b ascii.slash) [
       | true ↦ some b
-      | false ↦ elim (eqb b 98) [
-        | true ↦ some 8
-        | false ↦ elim (eqb b 102) [
-          | true ↦ some 12
-          | false ↦ elim (eqb b 110) [
-            | true ↦ some 10
-            | false ↦ elim (eqb b 114) [ true ↦ some 13 | false ↦ elim (eqb b 116) [ true ↦ some 9 | false ↦ none ] ]
+      | false ↦ elim (eqb b ascii.b) [
+        | true ↦ some ascii.backspace
+        | false ↦ elim (eqb b ascii.f) [
+          | true ↦ some ascii.formFeed
+          | false ↦ elim (eqb b ascii.n) [
+            | true ↦ some ascii.newline
+            | false ↦ elim (eqb b ascii.r) [
+              | true ↦ some ascii.carriageReturn
+              | false ↦ elim (eqb b ascii.t) [ true ↦ some ascii.tab | false ↦ none ]
+            ]
           ]
         ]
       ]
@@ -93,31 +97,31 @@ unfoldable pub escapeAt : List ℕ → ℕ → Scan Text
 unfolding letterEscape unicodeEscape
 escapeAt s at =
     elim (leb (length s) (at + 1)) [
-      | true ↦ fail (ended s)
+      | true ↦ refused (ended s)
       | false ↦ elim (letterEscape (byteAt s (at + 1))) [
         | some b ↦ ok (b ∷ []) (at + 2)
-        | none ↦ elim (eqb (byteAt s (at + 1)) 117) [ true ↦ unicodeEscape s at (at + 2) | false ↦ fail (placed 5 at) ]
+        | none ↦ elim (eqb (byteAt s (at + 1)) ascii.u) [ true ↦ unicodeEscape s at (at + 2) | false ↦ refused (placed 5 at) ]
       ]
     ]
 
 abbrev pub prepend : Text → Scan Text → Scan Text
 prepend t (ok u at) = ok (t ++ u) at
-prepend t (fail x) = fail x
+prepend t (refused x) = refused x
 
 -- a quoted string's text from a place behind its first quote on
-unfoldable pub bodyFrom : ℕ → List ℕ → ℕ → Scan Text
-unfolding escapeAt next
-bodyFrom zero s at = fail spent
+unfoldable pub bodyFrom : (fuel : ℕ) (s : List ℕ) (at : ℕ) → Scan Text
+unfolding escapeAt nextPlace
+bodyFrom zero s at = refused spent
 bodyFrom (suc n) s at =
     elim (leb (length s) at) [
-      | true ↦ fail (ended s)
-      | false ↦ elim (eqb (byteAt s at) 34) [
+      | true ↦ refused (ended s)
+      | false ↦ elim (eqb (byteAt s at) ascii.quote) [
         | true ↦ ok [] (at + 1)
-        | false ↦ elim (ltb (byteAt s at) 32) [
-          | true ↦ fail (placed 5 at)
-          | false ↦ elim (eqb (byteAt s at) 92) [
+        | false ↦ elim (ltb (byteAt s at) ascii.space) [
+          | true ↦ refused (placed 5 at)
+          | false ↦ elim (eqb (byteAt s at) ascii.backslash) [
             | true ↦ andThen (escapeAt s at) (λ t p. prepend t (bodyFrom n s p))
-            | false ↦ prepend (slice at (next s at) s) (bodyFrom n s (next s at))
+            | false ↦ prepend (slice at (nextPlace s at) s) (bodyFrom n s (nextPlace s at))
           ]
         ]
       ]
@@ -126,27 +130,27 @@ bodyFrom (suc n) s at =
 -- three quotes stand here
 unfoldable pub threeQuotes : List ℕ → ℕ → Bool
 threeQuotes s at =
-    elim (eqb (byteAt s at) 34) [
-      | true ↦ elim (eqb (byteAt s (at + 1)) 34) [ true ↦ eqb (byteAt s (at + 2)) 34 | false ↦ false ]
+    elim (eqb (byteAt s at) ascii.quote) [
+      | true ↦ elim (eqb (byteAt s (at + 1)) ascii.quote) [ true ↦ eqb (byteAt s (at + 2)) ascii.quote | false ↦ false ]
       | false ↦ false
     ]
 
 -- where the first run of three quotes or more begins, or the end
 unfoldable pub quotesRun : List ℕ → ℕ → ℕ
-unfolding skip threeQuotes next
-quotesRun s at = skip (λ p. ltb p (length s) && not (threeQuotes s p)) (next s) (length s) at
+unfolding skip threeQuotes nextPlace
+quotesRun s at = skip (λ p. ltb p (length s) && not (threeQuotes s p)) (nextPlace s) (length s) at
 
 -- the place after a run of quotes
 unfoldable pub afterQuotes : List ℕ → ℕ → ℕ
 unfolding skip
-afterQuotes s at = skip (λ p. eqb (byteAt s p) 34) (λ p. p + 1) (length s) at
+afterQuotes s at = skip (λ p. eqb (byteAt s p) ascii.quote) (λ p. p + 1) (length s) at
 
 unfoldable pub tripleAt : List ℕ → ℕ → Scan Text
 unfolding quotesRun afterQuotes
 tripleAt s at =
     let run = quotesRun s (at + 3) in
     elim (ltb run (length s)) [
-      | false ↦ fail (ended s)
+      | false ↦ refused (ended s)
       | true ↦ let end = afterQuotes s run in ok (slice (at + 3) (end - 3) s) end
     ]
 

@@ -1,7 +1,7 @@
 -- The document as it was read: a tree of nodes. A node is a value as it is written.
-use Prim.Native.Nat.{ℕ, zero, suc, _+_, max}
-use mathlib.Core.List.{List, [], _∷_, _++_}
-use mathlib.Core.Bool.{Bool, true, false}
+use Prim.Native.Nat.{ℕ, suc, max}
+use mathlib.Core.List.{List, []}
+use mathlib.Core.Bool.{Bool}
 use Rattle.rules.specs.Bytes.{Text}
 
 -- a simple value; a number's text is as written
@@ -40,8 +40,10 @@ mutual
   -- the pieces of one value, each with the whitespace between the one before it and itself
   pub data Pieces : Type 0 where
     no-pieces : Pieces
-    literal : ℕ → Text → Node → Pieces → Pieces
-    substituted : Text → Substitution → Pieces → Pieces
+    -- a piece that is a node: a simple value, an array or an object literal, with the place of its first byte
+    nodePiece : (place : ℕ) (gap : Text) (n : Node) (ps : Pieces) → Pieces
+    -- a substitution, which has its own place
+    substituted : (gap : Text) (x : Substitution) (ps : Pieces) → Pieces
 
 -- The root is an object, in braces or without, or an array.
 pub data Root : Type 0 where
@@ -55,7 +57,7 @@ rootNode (elements es) = array es
 -- the first byte of the first piece
 abbrev pub firstPlace : Pieces → ℕ
 firstPlace no-pieces = 0
-firstPlace (literal place gap node ps) = place
+firstPlace (nodePiece place gap node ps) = place
 firstPlace (substituted gap s ps) = s .place
 
 unfoldable pub joinElements : Elements → Elements → Elements
@@ -84,11 +86,11 @@ unfoldable mutual
 
   pub highestPiece : Pieces → ℕ
   highestPiece no-pieces = 0
-  highestPiece (literal place gap n ps) = max (heightOf n) (highestPiece ps)
+  highestPiece (nodePiece place gap n ps) = max (heightOf n) (highestPiece ps)
   highestPiece (substituted gap s ps) = highestPiece ps
 
 -- "blends are numbered from 0 by first byte, hidden ones too": a node's first byte is before those inside it, so the numbers go by
--- preorder (module FirstBytes of Theory). Each function gives the next number too.
+-- preorder (module FirstBytes of `theory`). Each function gives the next number too.
 unfoldable mutual
   pub numberNode : ℕ → Node → Node × ℕ
   numberNode b (simple x) = (simple x, b)
@@ -112,13 +114,36 @@ unfoldable mutual
 
   pub numberPieces : ℕ → Pieces → Pieces × ℕ
   numberPieces b no-pieces = (no-pieces, b)
-  numberPieces b (literal place gap n ps) =
+  numberPieces b (nodePiece place gap n ps) =
       let (n′, c) = numberNode b n in
       let (ps′, d) = numberPieces c ps in
-      (literal place gap n′ ps′, d)
+      (nodePiece place gap n′ ps′, d)
   numberPieces b (substituted gap s ps) = let (ps′, c) = numberPieces b ps in (substituted gap s ps′, c)
 
-abbrev pub numbered : Root → Root
+abbrev pub numberRoot : Root → Root
 unfolding numberNode
-numbered (fields fs) = fields (numberFields 0 fs .0)
-numbered (elements es) = elements (numberElements 0 es .0)
+numberRoot (fields fs) = fields (numberFields 0 fs .0)
+numberRoot (elements es) = elements (numberElements 0 es .0)
+
+-- ---- Q of every unresolved value in a node, by its number and its pieces; of those inside its pieces too
+
+module _ (Q : ℕ → Pieces → Type 0) where
+  abbrev mutual
+    pub AllNode : Node → Type 0
+    AllNode (simple x) = Unit {0}
+    AllNode (array es) = AllElements es
+    AllNode (object fs) = AllFields fs
+    AllNode (unresolved b ps) = Q b ps × AllPieces ps
+
+    pub AllElements : Elements → Type 0
+    AllElements no-elements = Unit {0}
+    AllElements (element n es) = AllNode n × AllElements es
+
+    pub AllFields : Fields → Type 0
+    AllFields no-fields = Unit {0}
+    AllFields (field k n fs) = AllNode n × AllFields fs
+
+    pub AllPieces : Pieces → Type 0
+    AllPieces no-pieces = Unit {0}
+    AllPieces (nodePiece place gap n ps) = AllNode n × AllPieces ps
+    AllPieces (substituted gap s ps) = AllPieces ps

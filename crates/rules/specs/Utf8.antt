@@ -1,6 +1,6 @@
 -- Document 01, number 2: ill-formed UTF-8, at the first byte of the first ill-formed sequence (the Unicode Standard's table of
 -- well-formed byte sequences).
-use Prim.Native.Nat.{ℕ, zero, suc, _+_, _-_, _*_, _/_, _%_}
+use Prim.Native.Nat.{ℕ, zero, suc, _+_, _/_, _%_}
 use mathlib.Core.List.{List, [], _∷_}
 use mathlib.Core.Bool.{Bool, true, false}
 use mathlib.Core.Option.{Option, none, some}
@@ -31,7 +31,7 @@ promised lead =
     ]
 
 -- the bytes from a place on that are all continuations, as many as are asked for
-unfoldable pub continued : ℕ → List ℕ → ℕ → Bool
+unfoldable pub continued : (count : ℕ) (s : List ℕ) (at : ℕ) → Bool
 continued zero s at = true
 continued (suc n) s at = elim (continues (byteAt s at)) [ true ↦ continued n s (at + 1) | false ↦ false ]
 

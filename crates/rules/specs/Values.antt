@@ -110,7 +110,7 @@ withinSize v = leb (nestingOf v) maxNesting && leb (recordSize v) maxRecords && 
 -- of that key, and merges with it where both are objects
 
 -- the lower object with one member more, or with that key's value changed
-unfoldable pub putMember : Text → (Answer → Value) → Members → Members
+unfoldable pub putMember : (key : Text) (new : Answer → Value) (ms : Members) → Members
 unfolding same
 putMember k new no-members = member k (new none) no-members
 putMember k new (member j v ms) = elim (same j k) [ true ↦ member j (new (some v)) ms | false ↦ member j v (putMember k new ms) ]

@@ -1,1 +1,1 @@
-// Definitions and proofs only (specs/): all of document 01 as executable definitions, and what is shown of them.
+// Definitions only (specs/): all of document 01, as definitions that can be run, with its cases.

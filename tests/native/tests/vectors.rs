@@ -1,10 +1,10 @@
-//! The vectors of crates/vectors, whose answers were written by hand, through the library and through the plain look-up.
+//! The vectors of crates/test_look_up, whose answers were written by hand, through the library and through the plain look-up.
 
 use native::{look_up, plain, Answer, Refusal};
 use std::{fs, io::Write, path::Path};
 
 fn read(name: &str) -> Vec<u8> {
-    let file = Path::new(env!("CARGO_MANIFEST_DIR")).join("../../crates/vectors").join(name);
+    let file = Path::new(env!("CARGO_MANIFEST_DIR")).join("../../crates/test_look_up").join(name);
     fs::read(&file).unwrap_or_else(|error| panic!("{}: {error}", file.display()))
 }
 
@@ -16,12 +16,13 @@ fn part<'a>(rest: &mut &'a [u8]) -> &'a [u8] {
     part
 }
 
-/// The answer that a line 'number place start size kind' states, where kind is the first byte of the value in the table.
+/// The answer that a line 'number place start size kind length' states, where kind and length are the first byte of the value in the
+/// table and how long it is.
 fn stated(line: &str, table: &[u8]) -> Answer {
     let numbers: Vec<usize> = line.split(' ').map(|number| number.parse().unwrap()).collect();
     match numbers[..] {
-        [0, 0, start, size, kind] if usize::from(table[start]) == kind => Ok(start..start + size),
-        [number, place, 0, 0, 0] => Err(Refusal { number: number as u8, place }),
+        [0, 0, start, size, kind, length] if usize::from(table[start]) == kind && length == size => Ok(start..start + size),
+        [number, place, 0, 0, 0, 0] => Err(Refusal { number: number as u8, place }),
         _ => panic!("not an answer: {line:?}"),
     }
 }

@@ -3,26 +3,20 @@ use mathlib.Core.Path.{_≡_, refl, ap}
 use Prim.Native.Nat.{ℕ}
 use mathlib.Core.List.{List, [], _∷_, _++_}
 use mathlib.Core.Option.{Option, none, some}
-use Rattle.answers.specs.Ask.{Ask, done, refuse, need, bind, Out, value, refused, missing, given, run, taken, needs}
+use Rattle.answers.specs.Ask.{Ask, done, refused, need, bind, Out, value, missing, orMissing, run, taken, needs, then}
 use Rattle.answers.specs.Theory.Sound.{clash}
 use Rattle.answers.specs.Theory.Fuel.{Below}
 
 pub bind-done : {F R A : Type 0} (m : Ask F R A) → bind m done ≡ m
 bind-done (done a) = refl
-bind-done (refuse x) = refl
+bind-done (refused x) = refl
 bind-done (need q f) = λ i. need q (λ r. bind-done (f r) i)
 
 pub bind-assoc : {F R A B C : Type 0} (m : Ask F R A) (k : A → Ask F R B) (l : B → Ask F R C)
     → bind (bind m k) l ≡ bind m (λ a. bind (k a) l)
 bind-assoc (done a) k l = refl
-bind-assoc (refuse x) k l = refl
+bind-assoc (refused x) k l = refl
 bind-assoc (need q f) k l = λ i. need q (λ r. bind-assoc (f r) k l i)
-
--- what goes on after a run, where the run has a value
-abbrev pub then : {F A B : Type 0} → Out F A → (A → Out F B) → Out F B
-then (value a) k = k a
-then (refused x) k = refused x
-then (missing q) k = missing q
 
 abbrev pub then-needs : {F A : Type 0} → Out F A → (A → List ℕ) → List ℕ
 then-needs (value a) k = k a
@@ -32,24 +26,24 @@ then-needs (missing q) k = []
 module _ {F R A B : Type 0} (known : ℕ → Option R) where
   pub run-bind : (m : Ask F R A) (k : A → Ask F R B) → run known (bind m k) ≡ then (run known m) (λ a. run known (k a))
   run-bind (done a) k = refl
-  run-bind (refuse x) k = refl
+  run-bind (refused x) k = refl
   run-bind (need q f) k = go (known q) (λ r. run-bind (f r) k)
     where
       go : (o : Option R) → ((r : R) → run known (bind (f r) k) ≡ then (run known (f r)) (λ a. run known (k a)))
-          → given q (λ r. run known (bind (f r) k)) o ≡ then (given q (λ r. run known (f r)) o) (λ a. run known (k a))
+          → orMissing q (λ r. run known (bind (f r) k)) o ≡ then (orMissing q (λ r. run known (f r)) o) (λ a. run known (k a))
       go none ih = refl
       go (some r) ih = ih r
 
   pub needs-bind : (m : Ask F R A) (k : A → Ask F R B)
       → needs known (bind m k) ≡ needs known m ++ then-needs (run known m) (λ a. needs known (k a))
   needs-bind (done a) k = refl
-  needs-bind (refuse x) k = refl
+  needs-bind (refused x) k = refl
   needs-bind (need q f) k = ap (λ l. q ∷ l) (go (known q) (λ r. needs-bind (f r) k))
     where
       go : (o : Option R)
           → ((r : R) → needs known (bind (f r) k) ≡ needs known (f r) ++ then-needs (run known (f r)) (λ a. needs known (k a)))
           → taken (λ r. needs known (bind (f r) k)) o
-          ≡ taken (λ r. needs known (f r)) o ++ then-needs (given q (λ r. run known (f r)) o) (λ a. needs known (k a))
+          ≡ taken (λ r. needs known (f r)) o ++ then-needs (orMissing q (λ r. run known (f r)) o) (λ a. needs known (k a))
       go none ih = refl
       go (some r) ih = ih r
 
@@ -67,5 +61,5 @@ module _ {F R A B : Type 0} (known : ℕ → Option R) where
 pub below-bind : {F R A B : Type 0} (N : ℕ) (m : Ask F R A) (k : A → Ask F R B)
     → Below N m → ((a : A) → Below N (k a)) → Below N (bind m k)
 below-bind N (done a) k w h = h a
-below-bind N (refuse x) k w h = tt
+below-bind N (refused x) k w h = tt
 below-bind N (need q f) k w h = (w .0, λ r. below-bind N (f r) k (w .1 r) h)

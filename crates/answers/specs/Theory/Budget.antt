@@ -10,9 +10,9 @@ use native.Mathlib.Omega.{arith}
 use lib.ListN.{length}
 use lib.Dec.{eqb, leb}
 use borrow.Author.Tests.{lt-ltb, leb-true, le-leb, eqb-true}
-use Rattle.answers.specs.Ask.{Ask, done, refuse, need, value, run, Trail, lookup, Once}
-use Rattle.answers.specs.Resolve.{Rules, Res, answer, stop, walk, bar, worked, resolve, Laid, Accepts}
-use Rattle.answers.specs.Theory.Holds.{Handler, answers, stops, dries, Partly, of-answer, holds-map, after-holds, lay-holds, enter-holds, wet-stops}
+use Rattle.answers.specs.Ask.{Ask, done, refused, need, value, run, Trail, lookup, Once}
+use Rattle.answers.specs.Resolve.{Rules, Res, answer, refused, walk, bar, worked, resolve, Laid, Accepts}
+use Rattle.answers.specs.Theory.Holds.{Handler, answers, refuses, dries, Partly, of-answer, holds-map, after-holds, lay-holds, enter-holds, wet-refused}
 use Rattle.answers.specs.Theory.Sound.{clash, Within, lookup-new, lookup-other, lookup-cases, lookup-keeps, run-inv, bar-none}
 use Rattle.answers.specs.Theory.Sound.{count, accepted, affordable, fitting}
 use Rattle.answers.specs.Theory.Fuel.{Below, Closed, resolve-wet}
@@ -29,7 +29,7 @@ module _ {F R : Type 0} (ρ : Rules F R) (budget budget′ : ℕ) where
   walk-also : {A : Type 0} (h h′ : Handler F R) → ((q : ℕ) (S : Trail R) (n : ℕ) → Also n (h q S n) (h′ q S n))
       → (t : Ask F R A) (S : Trail R) (n : ℕ) → Also n (walk h S n t) (walk h′ S n t)
   walk-also h h′ H (done a) S n = answers {n = n} (omega arith, λ l. refl)
-  walk-also h h′ H (refuse x) S n = stops tt
+  walk-also h h′ H (refused x) S n = refuses tt
   walk-also h h′ H (need q f) S n =
       after-holds (H q S n) (λ r S₁ n₁ a.
       holds-map (λ v S′ n′ b. (omega (arith, a .0, b .0), λ l. rw (a .1 (omega (arith, b .0))) (b .1 l))) (walk-also h h′ H (f r) S₁ n₁))
@@ -133,11 +133,11 @@ module _ {F R A : Type 0} (ρ : Rules F R) (budget : ℕ) (root : Ask F R A) (N 
       (S, n, exact ρ N budget root N e (omega (arith, count ρ N root N e, within-length S T once w)), w)
 
   pub refuses-exactly : ρ .fits [] ≡ true
-      → ((x : F) × (resolve ρ budget root N ≡ stop x))
+      → ((x : F) × (resolve ρ budget root N ≡ refused x))
       ↔ ((T : Trail R) (v : A) → Accepts ρ root T v → ρ .fits T ≡ true → length T ≤ budget → ⊥)
   refuses-exactly empty-fits = (
     λ p T v acc T-fits le. let (S, n, e, w) = completes T T-fits le acc in clash (cc),
-    λ h. wet-stops (resolve-wet ρ budget root N closed root-below)
+    λ h. wet-refused (resolve-wet ρ budget root N closed root-below)
         (λ v S n e. h S v (accepted ρ budget root N e) (fitting ρ budget root N e empty-fits)
         (omega (arith, count ρ budget root N e, affordable ρ budget root N e))),
   )
@@ -151,7 +151,7 @@ Compatible {R} S T = (q : ℕ) (r r′ : R) → lookup S q ≡ some r → lookup
 run-one : {F R A : Type 0} (S T : Trail R) → Compatible S T → (t : Ask F R A) (a a′ : A)
     → run (lookup S) t ≡ value a → run (lookup T) t ≡ value a′ → a ≡ a′
 run-one S T c (done x) a a′ e e′ = cc
-run-one S T c (refuse x) a a′ e e′ = clash (cc)
+run-one S T c (refused x) a a′ e e′ = clash (cc)
 run-one S T c (need q f) a a′ e e′ =
     let (r, h, k) = run-inv (lookup S) q f e in
     let (r′, h′, k′) = run-inv (lookup T) q f e′ in

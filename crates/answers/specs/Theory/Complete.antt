@@ -8,9 +8,9 @@ use mathlib.Core.Option.{none, some}
 use mathlib.Core.Logic.{inl, inr, _↔_}
 use native.Mathlib.Omega.{arith}
 use borrow.Author.Tests.{ne-eqb, lt-ltb}
-use Rattle.answers.specs.Ask.{Ask, done, refuse, need, value, run, Trail, lookup, mem, Once}
-use Rattle.answers.specs.Resolve.{Rules, Res, answer, stop, walk, bar, worked, resolve, Laid, Accepts}
-use Rattle.answers.specs.Theory.Holds.{Handler, answers, Fully, after-holds, lay-holds, enter-holds, full-answer, wet-stops}
+use Rattle.answers.specs.Ask.{Ask, done, refused, need, value, run, Trail, lookup, mem, Once}
+use Rattle.answers.specs.Resolve.{Rules, Res, answer, refused, walk, bar, worked, resolve, Laid, Accepts}
+use Rattle.answers.specs.Theory.Holds.{Handler, answers, Fully, after-holds, lay-holds, enter-holds, full-answer, wet-refused}
 use Rattle.answers.specs.Theory.Sound.{clash, Within, lookup-other, lookup-cases, lookup-keeps, mem-new, mem-cases, mem-more, run-inv}
 use Rattle.answers.specs.Theory.Sound.{accepted, fitting}
 use Rattle.answers.specs.Theory.Fuel.{free-le, idle, idle-drop, begun, left, left-begin, left-lay, Below, Closed, resolve-wet}
@@ -68,7 +68,7 @@ module _ {F R : Type 0} (ρ : Rules F R) (budget N : ℕ) (closed : Closed ρ N)
       → (t : Ask F R A) → Below N t → (S : Trail R) (n : ℕ) (a : A) → run (lookup T′) t ≡ value a → Good busy S n
       → Ends busy a (walk h S n t)
   walk-ends T′ h H (done a′) w S n a e g = answers {a = a′} (cc, g)
-  walk-ends T′ h H (refuse x) w S n a e g = clash (cc)
+  walk-ends T′ h H (refused x) w S n a e g = clash (cc)
   walk-ends T′ h H (need q f) w S n a e g =
       let (r, z, k) = run-inv (lookup T′) q f e in
       after-holds (H q S n r (w .0) z g) (λ r′ S′ n′ p. rw (p .0) (walk-ends T′ h H (f r) (w .1 r) S′ n′ a k (p .1)))
@@ -123,9 +123,9 @@ module _ {F R A : Type 0} (ρ : Rules F R) (budget : ℕ) (root : Ask F R A) (N 
       (S, n, rw (p .0) at e, p .1 .within)
 
   pub refuses-iff : ρ .fits [] ≡ true
-      → ((x : F) × (resolve ρ budget root N ≡ stop x)) ↔ ((T : Trail R) (v : A) → Accepts ρ root T v → ρ .fits T ≡ true → ⊥)
+      → ((x : F) × (resolve ρ budget root N ≡ refused x)) ↔ ((T : Trail R) (v : A) → Accepts ρ root T v → ρ .fits T ≡ true → ⊥)
   refuses-iff empty-fits = (
     λ p T v acc T-fits. let (S, n, e, w) = complete T T-fits acc in clash (cc),
-    λ h. wet-stops (resolve-wet ρ budget root N closed root-below)
+    λ h. wet-refused (resolve-wet ρ budget root N closed root-below)
         (λ v S n e. h S v (accepted ρ budget root N e) (fitting ρ budget root N e empty-fits)),
   )

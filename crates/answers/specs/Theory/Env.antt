@@ -4,7 +4,8 @@ use Prim.Native.Nat.{ℕ, zero, suc, _+_, _*_, _<_}
 use mathlib.Core.List.{List, [], _∷_}
 use mathlib.Core.Option.{Option, none, some}
 use Rattle.answers.specs.Ask.{Ask, value, run, Trail, lookup}
-use Rattle.answers.specs.Resolve.{Rules, Res, unless, bar, resolve, machine}
+use Rattle.answers.specs.Resolve.{Rules, Res, bar, resolve}
+use Rattle.answers.specs.Theory.Restarts.{unless, machine}
 use Rattle.answers.specs.Theory.Sound.{All}
 use Rattle.answers.specs.Theory.Fuel.{Below, Closed}
 use Rattle.answers.specs.Theory.Machine.{react-cong, lay-cong, run-missing, machine-resolves}

@@ -6,8 +6,9 @@ use mathlib.Core.Bool.{Bool, true}
 use mathlib.Core.List.{[], _∷_}
 use lib.Dec.{leb}
 use lib.ListN.{length}
-use Rattle.answers.specs.Ask.{Ask, done, refuse, need, Trail}
-use Rattle.answers.specs.Resolve.{Rules, answer, stop, resolve, machine, Accepts}
+use Rattle.answers.specs.Ask.{Ask, done, refused, need, Trail}
+use Rattle.answers.specs.Resolve.{Rules, answer, refused, resolve, Accepts}
+use Rattle.answers.specs.Theory.Restarts.{machine}
 use Rattle.answers.specs.Theory.Fuel.{Closed}
 use Rattle.answers.specs.Theory.Complete.{refuses-iff}
 use Rattle.answers.specs.Theory.Budget.{exact}
@@ -24,7 +25,7 @@ rules zero = need 1 (λ r. done (r + 1))
 rules (suc zero) = done 5
 rules (suc (suc zero)) = need 3 (λ r. done r)
 rules (suc (suc (suc zero))) = need 2 (λ r. done r)
-rules (suc (suc (suc (suc q)))) = refuse wrong
+rules (suc (suc (suc (suc q)))) = refused wrong
 
 abbrev fitting : (Trail ℕ → Bool) → Rules Why ℕ
 fitting room = record { rule = rules; circular = circle; excess = too-many; full = no-room; fits = room }
@@ -44,19 +45,19 @@ sums = refl
 sums-machine : machine two 9 sum 11 [] [] 0 ≡ answer 11 ((0, 6) ∷ (1, 5) ∷ []) 2
 sums-machine = refl
 
-circular : resolve two 9 (ask 2) 5 ≡ stop (circle 2)
+circular : resolve two 9 (ask 2) 5 ≡ refused (circle 2)
 circular = refl
 
-circular-machine : machine two 9 (ask 2) 11 [] [] 0 ≡ stop (circle 2)
+circular-machine : machine two 9 (ask 2) 11 [] [] 0 ≡ refused (circle 2)
 circular-machine = refl
 
-excess : resolve two 1 sum 5 ≡ stop (too-many 1)
+excess : resolve two 1 sum 5 ≡ refused (too-many 1)
 excess = refl
 
-full : resolve (fitting (λ S. leb (length S) 1)) 9 sum 5 ≡ stop no-room
+full : resolve (fitting (λ S. leb (length S) 1)) 9 sum 5 ≡ refused no-room
 full = refl
 
-refuses : resolve two 9 (ask 4) 5 ≡ stop wrong
+refuses : resolve two 9 (ask 4) 5 ≡ refused wrong
 refuses = refl
 
 -- ---- the theory at these rules

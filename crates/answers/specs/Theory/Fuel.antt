@@ -7,9 +7,9 @@ use mathlib.Core.Option.{Option, none, some}
 use native.Mathlib.Omega.{arith}
 use lib.Dec.{eqb}
 use borrow.Author.Tests.{eqb-true, eqb-false, eq-eqb}
-use Rattle.answers.specs.Ask.{Ask, done, refuse, need, Trail, lookup, mem}
-use Rattle.answers.specs.Resolve.{Rules, Res, walk, bar, worked, resolve}
-use Rattle.answers.specs.Theory.Holds.{Handler, answers, stops, Wet, after-holds, lay-holds, enter-holds}
+use Rattle.answers.specs.Ask.{Ask, done, refused, need, Trail, lookup, mem}
+use Rattle.answers.specs.Resolve.{Rules, walk, bar, worked, resolve}
+use Rattle.answers.specs.Theory.Holds.{Handler, answers, refuses, Wet, after-holds, lay-holds, enter-holds}
 use Rattle.answers.specs.Theory.Sound.{clash, bar-none, mem-new, mem-more}
 
 -- ---- how many numbers below N have not p
@@ -93,7 +93,7 @@ module _ {R : Type 0} (N q : ℕ) (S : Trail R) (busy : List ℕ) where
 -- every question needed, under any answers, is below N
 abbrev pub Below : {F R A : Type 0} → ℕ → Ask F R A → Type 0
 Below N (done a) = Unit {0}
-Below N (refuse x) = Unit {0}
+Below N (refused x) = Unit {0}
 Below {F} {R} N (need q f) = (q < N) × ((r : R) → Below N (f r))
 
 -- the rules of the questions below N need only questions below N
@@ -103,7 +103,7 @@ Closed ρ N = (q : ℕ) → q < N → Below N (ρ .rule q)
 walk-wet : {F R A : Type 0} (N : ℕ) (h : Handler F R) → ((q : ℕ) (S : Trail R) (n : ℕ) → q < N → Wet (h q S n))
     → (t : Ask F R A) → Below N t → (S : Trail R) (n : ℕ) → Wet (walk h S n t)
 walk-wet N h H (done a) w S n = answers tt
-walk-wet N h H (refuse x) w S n = stops tt
+walk-wet N h H (refused x) w S n = refuses tt
 walk-wet N h H (need q f) w S n = after-holds (H q S n (w .0)) (λ r S′ n′ _. walk-wet N h H (f r) (w .1 r) S′ n′)
 
 module _ {F R : Type 0} (ρ : Rules F R) (budget N : ℕ) (closed : Closed ρ N) where

@@ -4,9 +4,10 @@ use Prim.Native.Nat.{ℕ, zero, suc, _+_, _*_, _<_}
 use mathlib.Core.List.{List, [], _∷_}
 use mathlib.Core.Option.{Option, none, some}
 use mathlib.Core.Logic.{inl, inr}
-use Rattle.answers.specs.Ask.{Ask, done, refuse, need, value, refused, given, run, Trail, lookup}
-use Rattle.answers.specs.Resolve.{Rules, Res, stop, bar, resolve, machine, Laid}
-use Rattle.answers.specs.Theory.Holds.{Holds, answers, dries, of-stop, after-holds, laid-holds, react-holds, unless-holds}
+use Rattle.answers.specs.Ask.{Ask, done, refused, need, value, orMissing, run, Trail, lookup}
+use Rattle.answers.specs.Resolve.{Rules, Res, refused, bar, resolve, Laid}
+use Rattle.answers.specs.Theory.Restarts.{machine}
+use Rattle.answers.specs.Theory.Holds.{Holds, answers, dries, holds-refused, after-holds, laid-holds, react-holds, unless-holds}
 use Rattle.answers.specs.Theory.Sound.{clash, All, lookup-cases, bar-some}
 use Rattle.answers.specs.Theory.Fuel.{Below, Closed}
 use Rattle.answers.specs.Theory.Machine.{run-missing, machine-resolves}
@@ -14,10 +15,10 @@ use Rattle.answers.specs.Theory.Machine.{run-missing, machine-resolves}
 -- a run sees only what is known
 pub run-cong : {F R A : Type 0} (known known′ : ℕ → Option R) → ((q : ℕ) → known q ≡ known′ q) → (t : Ask F R A) → run known t ≡ run known′ t
 run-cong known known′ h (done a) = refl
-run-cong known known′ h (refuse x) = refl
+run-cong known known′ h (refused x) = refl
 run-cong {F} {R} known known′ h (need q f) = rw (h q) (go (known′ q) (λ r. run-cong known known′ h (f r)))
   where
-    go : (o : Option R) → ((r : R) → run known (f r) ≡ run known′ (f r)) → given q (λ r. run known (f r)) o ≡ given q (λ r. run known′ (f r)) o
+    go : (o : Option R) → ((r : R) → run known (f r) ≡ run known′ (f r)) → orMissing q (λ r. run known (f r)) o ≡ orMissing q (λ r. run known′ (f r)) o
     go none ih = refl
     go (some r) ih = ih r
 
@@ -65,7 +66,7 @@ module _ {F R : Type 0} (ρ : Rules F R) (P : R → Type 0) (preserves : Preserv
         (λ q e. unless-holds _ n (bar ρ budget (b ∷ bs) n q) (not-barred (b ∷ bs) n q)
         (λ _. machine-avoids m (q ∷ b ∷ bs) (run-missing N S (ρ .rule b) (closed b (below .0)) q e .1, below) S (suc n) h))
 
-    pub never : resolve ρ budget root N ≡ stop x₀ → ⊥
+    pub never : resolve ρ budget root N ≡ refused x₀ → ⊥
     never e =
         let start : Every P [] = λ q r h. clash (cc) in
-        of-stop (rw (machine-resolves ρ budget root N closed root-below, e) at (machine-avoids (2 * N + 1) [] tt [] 0 start)) refl
+        holds-refused (rw (machine-resolves ρ budget root N closed root-below, e) at (machine-avoids (2 * N + 1) [] tt [] 0 start)) refl

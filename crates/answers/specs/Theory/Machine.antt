@@ -6,8 +6,9 @@ use mathlib.Core.List.{List, [], _∷_}
 use mathlib.Core.Option.{Option, none, some}
 use native.Mathlib.Omega.{arith}
 use lib.ListN.{length}
-use Rattle.answers.specs.Ask.{Ask, done, refuse, need, Out, value, refused, missing, given, run, Trail, lookup, mem}
-use Rattle.answers.specs.Resolve.{Rules, Res, answer, stop, dry, after, walk, react, unless, bar, lay, worked, resolve, machine}
+use Rattle.answers.specs.Ask.{Ask, done, refused, need, Out, value, missing, orMissing, run, Trail, lookup, mem}
+use Rattle.answers.specs.Resolve.{Rules, Res, answer, refused, dry, after, walk, bar, lay, worked, resolve}
+use Rattle.answers.specs.Theory.Restarts.{react, unless, machine}
 use Rattle.answers.specs.Theory.Holds.{Handler, after-cong}
 use Rattle.answers.specs.Theory.Sound.{clash, bar-none, Handles, worked-step}
 use Rattle.answers.specs.Theory.Fuel.{free-le, idle, idle-drop, begun, left, left-begin, left-lay, Below, Closed}
@@ -25,7 +26,7 @@ module _ {F R A : Type 0} (ρ : Rules F R) (q : ℕ) where
       → after (lay ρ q (answer r S n)) k ≡ after (lay ρ q (answer r S n)) k′
   lay-cong r S n k k′ h = go (ρ .fits ((q, r) ∷ S))
     where
-      go : (t : Bool) → after (cond t (answer r ((q, r) ∷ S) n) (stop (ρ .full))) k ≡ after (cond t (answer r ((q, r) ∷ S) n) (stop (ρ .full))) k′
+      go : (t : Bool) → after (cond t (answer r ((q, r) ∷ S) n) (refused (ρ .full))) k ≡ after (cond t (answer r ((q, r) ∷ S) n) (refused (ρ .full))) k′
       go true = h
       go false = refl
 
@@ -39,17 +40,17 @@ module _ {F R A : Type 0} (ρ : Rules F R) (q : ℕ) where
     lay-after : {B : Type 0} (m : Res F R B) (l : B → Trail R → ℕ → Res F R R)
         → after (lay ρ q (after m l)) k ≡ after m (λ b S n. after (lay ρ q (l b S n)) k)
     lay-after (answer b S n) l = refl
-    lay-after (stop x) l = refl
+    lay-after (refused x) l = refl
     lay-after dry l = refl
 
 -- a question that a run misses is not in the trail
 pub run-missing : {F R A : Type 0} (N : ℕ) (S : Trail R) (t : Ask F R A) → Below N t → (q : ℕ) → run (lookup S) t ≡ missing q
     → (lookup S q ≡ none) × (q < N)
 run-missing N S (done a) w q e = clash (cc)
-run-missing N S (refuse x) w q e = clash (cc)
+run-missing N S (refused x) w q e = clash (cc)
 run-missing {F} {R} N S (need j f) w q e = go (lookup S j) refl e (λ r. run-missing N S (f r) (w .1 r) q)
   where
-    go : (o : Option R) → lookup S j ≡ o → given j (λ r. run (lookup S) (f r)) o ≡ missing q
+    go : (o : Option R) → lookup S j ≡ o → orMissing j (λ r. run (lookup S) (f r)) o ≡ missing q
         → ((r : R) → run (lookup S) (f r) ≡ missing q → (lookup S q ≡ none) × (q < N)) → (lookup S q ≡ none) × (q < N)
     go none h k ih = let z : j ≡ q = cc in (cc, rw z at (w .0))
     go (some r) h k ih = ih r k
@@ -64,14 +65,14 @@ module _ {F R : Type 0} (ρ : Rules F R) (budget : ℕ) (busy : List ℕ) (h : H
     (known : (q : ℕ) (S : Trail R) (n : ℕ) (r : R) → lookup S q ≡ some r → h q S n ≡ answer r S n) where
   walk-run : {A : Type 0} (t : Ask F R A) (S : Trail R) (n : ℕ) → Restarts h S n t (run (lookup S) t)
   walk-run (done a) S n = refl
-  walk-run (refuse x) S n = refl
+  walk-run (refused x) S n = refl
   walk-run (need q f) S n = go (lookup S q) refl (λ r. walk-run (f r) S n)
     where
       again : (r : R) (S′ : Trail R) (n′ : ℕ) → lookup S′ q ≡ some r → walk h S′ n′ (f r) ≡ walk h S′ n′ (need q f)
       again r S′ n′ e = rw (known q S′ n′ r e)
 
       go : (o : Option R) → lookup S q ≡ o → ((r : R) → Restarts h S n (f r) (run (lookup S) (f r)))
-          → Restarts h S n (need q f) (given q (λ r. run (lookup S) (f r)) o)
+          → Restarts h S n (need q f) (orMissing q (λ r. run (lookup S) (f r)) o)
       go none e ih = after-cong (H q S n) (λ r S′ n′ a. again r S′ n′ (a .1))
       go (some r) e ih =
           sym (again r S n e) ∙ ih r

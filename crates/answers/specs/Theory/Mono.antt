@@ -8,14 +8,14 @@ use mathlib.Core.Logic.{_⊎_, inl, inr}
 use native.Mathlib.Omega.{arith}
 use lib.Dec.{ltb}
 use borrow.Author.Tests.{ltb-true, lt-ltb}
-use Rattle.answers.specs.Ask.{Ask, done, refuse, need, Trail, lookup, mem}
-use Rattle.answers.specs.Resolve.{Rules, Res, answer, stop, dry, after, walk, enter, bar, lay, worked, resolve}
+use Rattle.answers.specs.Ask.{Ask, done, refused, need, Trail, lookup, mem}
+use Rattle.answers.specs.Resolve.{Rules, Res, answer, refused, dry, after, walk, enter, bar, lay, worked, resolve}
 use Rattle.answers.specs.Theory.Holds.{Handler}
 
 module _ {F R : Type 0} (ρ : Rules F R) where
   -- a question would have begun past the budget
   abbrev pub Spent : {A : Type 0} → Res F R A → Type 0
-  Spent m = (q : ℕ) × (m ≡ stop (ρ .excess q))
+  Spent m = (q : ℕ) × (m ≡ refused (ρ .excess q))
 
   abbrev pub Agree : {A : Type 0} → Res F R A → Res F R A → Type 0
   Agree m m′ = Spent m ⊎ (m ≡ m′)
@@ -23,7 +23,7 @@ module _ {F R : Type 0} (ρ : Rules F R) where
   after-same : {A B : Type 0} (m : Res F R A) (k k′ : A → Trail R → ℕ → Res F R B)
       → ((a : A) (S : Trail R) (n : ℕ) → Agree (k a S n) (k′ a S n)) → Agree (after m k) (after m k′)
   after-same (answer a S n) k k′ h = h a S n
-  after-same (stop x) k k′ h = inr refl
+  after-same (refused x) k k′ h = inr refl
   after-same dry k k′ h = inr refl
 
   after-agree : {A B : Type 0} {m m′ : Res F R A} (k k′ : A → Trail R → ℕ → Res F R B) → Agree m m′
@@ -38,7 +38,7 @@ module _ {F R : Type 0} (ρ : Rules F R) where
   walk-agree : {A : Type 0} (h h′ : Handler F R) → ((q : ℕ) (S : Trail R) (n : ℕ) → Agree (h q S n) (h′ q S n))
       → (t : Ask F R A) (S : Trail R) (n : ℕ) → Agree (walk h S n t) (walk h′ S n t)
   walk-agree h h′ H (done a) S n = inr refl
-  walk-agree h h′ H (refuse x) S n = inr refl
+  walk-agree h h′ H (refused x) S n = inr refl
   walk-agree h h′ H (need q f) S n = after-agree _ _ (H q S n) (λ r S′ n′. walk-agree h h′ H (f r) S′ n′)
 
   module _ (budget budget′ : ℕ) (more : budget ≤ budget′) where

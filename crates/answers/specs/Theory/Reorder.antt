@@ -5,7 +5,7 @@ use mathlib.Core.Bool.{true}
 use mathlib.Core.List.{[], _∷_}
 use mathlib.Core.Option.{Option, none, some}
 use mathlib.Core.Logic.{inl, inr}
-use Rattle.answers.specs.Ask.{Ask, done, refuse, need, value, run, needs, Trail, lookup, Once}
+use Rattle.answers.specs.Ask.{Ask, done, refused, need, value, run, needs, Trail, lookup, Once}
 use Rattle.answers.specs.Resolve.{Rules, Laid, Accepts}
 use Rattle.answers.specs.Theory.Sound.{clash, All, Within, lookup-new, lookup-cases, lookup-keeps, run-inv, run-keeps}
 use Rattle.answers.specs.Theory.Fuel.{has}
@@ -33,7 +33,7 @@ has-some (some r) e = (r, refl)
 run-met : {F R A : Type 0} (S S′ : Trail R) → Within S′ S → (t : Ask F R A) → Met S S′ t → {a : A} → run (lookup S) t ≡ value a
     → run (lookup S′) t ≡ value a
 run-met S S′ w (done a) met e = e
-run-met S S′ w (refuse x) met e = e
+run-met S S′ w (refused x) met e = e
 run-met S S′ w (need q f) met e =
     let (r, h, k) = run-inv (lookup S) q f e in
     let (r′, h′) = has-some (lookup S′ q) (met .0) in
@@ -68,7 +68,7 @@ module _ {F R : Type 0} (ρ : Rules F R) where
 -- what a run that has its value takes is there
 run-takes : {F R A : Type 0} (S S′ : Trail R) → Within S′ S → (t : Ask F R A) {a : A} → run (lookup S′) t ≡ value a → Met S S′ t
 run-takes S S′ w (done a) e = tt
-run-takes S S′ w (refuse x) e = tt
+run-takes S S′ w (refused x) e = tt
 run-takes S S′ w (need q f) e =
     let (r, h, k) = run-inv (lookup S′) q f e in
     (rw h, rw (w q r h) (run-takes S S′ w (f r) k))

@@ -10,9 +10,9 @@ use native.Mathlib.Omega.{arith}
 use lib.ListN.{length}
 use lib.Dec.{eqb, ltb}
 use borrow.Author.Tests.{ltb-true, eqb-true, eq-eqb, ne-eqb}
-use Rattle.answers.specs.Ask.{Ask, done, refuse, need, value, given, run, Trail, lookup, mem}
-use Rattle.answers.specs.Resolve.{Rules, Res, answer, walk, bar, Laid, Accepts, worked, resolve}
-use Rattle.answers.specs.Theory.Holds.{Handler, answers, stops, dries, Partly, of-answer, holds-map, after-holds, lay-holds, enter-holds}
+use Rattle.answers.specs.Ask.{Ask, done, refused, need, value, orMissing, run, Trail, lookup, mem}
+use Rattle.answers.specs.Resolve.{Rules, answer, walk, bar, Laid, Accepts, worked, resolve}
+use Rattle.answers.specs.Theory.Holds.{Handler, answers, refuses, dries, Partly, of-answer, holds-map, after-holds, lay-holds, enter-holds}
 
 -- where two different constructors are equal, anything is: `clash (cc)`
 pub clash : {A : Type 0} → _≡_ {A = ℕ} 0 1 → A
@@ -71,14 +71,14 @@ pub run-inv : {F R A : Type 0} (known : ℕ → Option R) (q : ℕ) (f : R → A
     → (r : R) × (known q ≡ some r) × (run known (f r) ≡ value a)
 run-inv {F} {R} known q f {a} e = go (known q) refl e
   where
-    go : (o : Option R) → known q ≡ o → given q (λ r. run known (f r)) o ≡ value a → (r : R) × (known q ≡ some r) × (run known (f r) ≡ value a)
+    go : (o : Option R) → known q ≡ o → orMissing q (λ r. run known (f r)) o ≡ value a → (r : R) × (known q ≡ some r) × (run known (f r) ≡ value a)
     go none h k = clash (cc)
     go (some r) h k = (r, h, k)
 
 -- a run that has its value keeps it where answers are added
 pub run-keeps : {F R A : Type 0} (S T : Trail R) → Within S T → (t : Ask F R A) {a : A} → run (lookup S) t ≡ value a → run (lookup T) t ≡ value a
 run-keeps S T w (done a) e = e
-run-keeps S T w (refuse x) e = e
+run-keeps S T w (refused x) e = e
 run-keeps S T w (need q f) e =
     let (r, h, k) = run-inv (lookup S) q f e in
     rw (w q r h) (run-keeps S T w (f r) k)
@@ -147,7 +147,7 @@ module _ {F R : Type 0} (ρ : Rules F R) (budget : ℕ) where
   walk-step : {A : Type 0} {busy : List ℕ} (h : Handler F R) → Handles busy h → (t : Ask F R A) (S : Trail R) (n : ℕ)
       → Partly (λ a S′ n′. Step busy S n S′ n′ × (run (lookup S′) t ≡ value a)) (walk h S n t)
   walk-step {busy = busy} h H (done a) S n = answers (step-refl busy S n, refl)
-  walk-step h H (refuse x) S n = stops tt
+  walk-step h H (refused x) S n = refuses tt
   walk-step h H (need q f) S n =
       after-holds (H q S n) (λ r S₁ n₁ a.
       holds-map (λ v S′ n′ b. (step-trans (a .0) (b .0), rw (b .0 .keeps q r (a .1)) (b .1))) (walk-step h H (f r) S₁ n₁))

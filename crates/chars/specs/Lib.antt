@@ -1,4 +1,0 @@
-pub mod Cursor
-pub mod Seen
-pub mod Parts
-pub mod Bounds

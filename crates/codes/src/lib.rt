@@ -1,0 +1,7 @@
+// Document 01's numbers by name: bytes of the grammar, limits, refusal numbers, kinds of records. Constants only; the definitions of
+// `rules` have the same names for theirs (Ascii, Sizes, Refusals, Kinds).
+pub mod bytes;
+pub mod kinds;
+pub mod letters;
+pub mod limits;
+pub mod refusals;

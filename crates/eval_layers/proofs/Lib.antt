@@ -1,0 +1,4 @@
+pub mod Stacks
+pub mod Members
+pub mod Depths
+pub mod Tops

@@ -1,0 +1,28 @@
+-- laws: deeps
+use Rattle.eval_layers.proofs.Depths.{DeepInv, deeps}
+use Prim.Native.Nat.{_-_}
+use borrow.Author.Needs.{needs}
+use Rattle.eval_layers.proofs.deeper.Statement.{statement}
+use Rattle.eval_layers.proofs.deeper.Tie as tie
+
+abbrev Inv-loop : tie.InvT-loop
+Inv-loop table records texts s₀ base k hi i₀ w₀ s i w = DeepInv table records texts i₀ hi (w₀ .stuck) base k s₀ s i w
+
+abbrev μ-loop : tie.MeasureT-loop
+μ-loop table records texts s₀ base k hi i₀ w₀ s i w = hi - i
+
+pub deeper-spec : {M : Type 1} → statement M
+deeper-spec =
+    tie.close
+    (tie.spec
+    Inv-loop
+    μ-loop
+    (λ c. search deeps)
+    (λ c. search needs)
+    (λ c. search needs)
+    (λ c κs. search needs)
+    (λ c. search needs)
+    (λ c. search needs)
+    (λ c. search deeps)
+    (λ c. search needs)
+    (λ c. search deeps))

@@ -1,0 +1,34 @@
+-- laws: gathers
+use Rattle.eval_layers.proofs.Tops.{GatherInv, gathers}
+use borrow.Author.Needs.{needs}
+use Rattle.eval_layers.proofs.gather.Statement.{statement}
+use Rattle.eval_layers.proofs.gather.Tie as tie
+
+abbrev Inv-loop : tie.InvT-loop
+Inv-loop table records s lo hi stuck i₀ i = GatherInv table records s lo hi stuck i
+
+abbrev μ-loop : tie.MeasureT-loop
+μ-loop table records s lo hi stuck i₀ i = i
+
+pub gather-spec : {M : Type 1} → statement M
+gather-spec =
+    tie.close
+    (tie.spec
+    Inv-loop
+    μ-loop
+    (λ c. search gathers)
+    (λ c. search needs)
+    (λ c. search needs)
+    (λ c. search needs)
+    (λ c κs. search needs)
+    (λ c. search needs)
+    (λ c. search needs)
+    (λ c κs. search needs)
+    (λ c. search gathers)
+    (λ c. search needs)
+    (λ c. search needs)
+    (λ c. search needs)
+    (λ c. search gathers)
+    (λ c. search needs)
+    (λ c κs. search needs)
+    (λ c. search gathers))

@@ -1,0 +1,15 @@
+-- laws: endeds
+use Rattle.eval_layers.proofs.Tops.{endeds}
+use borrow.Author.Needs.{needs}
+use Rattle.eval_layers.proofs.of_end.Statement.{statement}
+use Rattle.eval_layers.proofs.of_end.Tie as tie
+
+pub of-end-spec : {M : Type 1} → statement M
+of-end-spec =
+    tie.close
+    (tie.spec
+    (λ c. search needs)
+    (λ c. search needs)
+    (λ c. search endeds)
+    (λ c. search endeds)
+    (λ c. search endeds))

@@ -1,0 +1,11 @@
+-- laws: mets
+use Rattle.eval_layers.proofs.Tops.{mets}
+use Rattle.eval_layers.proofs.of_other.Statement.{statement}
+use Rattle.eval_layers.proofs.of_other.Tie as tie
+
+pub of-other-spec : {M : Type 1} → statement M
+of-other-spec =
+    tie.close
+    (tie.spec
+    (λ c. search mets)
+    (λ c. search mets))

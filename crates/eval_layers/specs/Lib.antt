@@ -1,0 +1,5 @@
+pub mod Model
+pub mod Contracts
+pub mod Tables
+pub mod Deeper
+pub mod Gather

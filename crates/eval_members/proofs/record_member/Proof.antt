@@ -1,0 +1,20 @@
+-- laws: record-kids
+use Rattle.eval_members.proofs.Looks.{record-kids}
+use borrow.Author.Needs.{needs}
+use Rattle.eval_members.proofs.record_member.Statement.{statement}
+use Rattle.eval_members.proofs.record_member.Tie as tie
+
+pub record-member-spec : {M : Type 1} → statement M
+record-member-spec =
+    tie.close
+    (tie.spec
+    (λ c. search needs)
+    (λ c κs. search needs)
+    (λ c. search needs)
+    (λ c. search needs)
+    (λ c. search record-kids)
+    (λ c. search needs)
+    (λ c. search needs)
+    (λ c. search record-kids)
+    (λ c. search record-kids)
+    (λ c. search record-kids))

@@ -1,0 +1,18 @@
+-- laws: key-of-path
+use Rattle.eval_paths.proofs.Paths.{key-of-path}
+use borrow.Author.Needs.{needs}
+use Rattle.eval_paths.proofs.path_key.Statement.{statement}
+use Rattle.eval_paths.proofs.path_key.Tie as tie
+
+pub path-key-spec : {M : Type 1} → statement M
+path-key-spec =
+    tie.close
+    (tie.spec
+    (λ c. search needs)
+    (λ c κs. search needs)
+    (λ c. search needs)
+    (λ c. search needs)
+    (λ c κs. search needs)
+    (λ c. search needs)
+    (λ c κs. search needs)
+    (λ c. search key-of-path))

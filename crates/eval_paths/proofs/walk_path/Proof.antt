@@ -1,0 +1,27 @@
+-- laws: walks
+use Rattle.eval_paths.proofs.Paths.{WalkInv, walks}
+use Prim.Native.Nat.{_-_}
+use borrow.Author.Needs.{needs}
+use Rattle.eval_paths.proofs.walk_path.Statement.{statement}
+use Rattle.eval_paths.proofs.walk_path.Tie as tie
+
+abbrev Inv-loop : tie.InvT-loop
+Inv-loop table records texts s₀ route from i₀ p₀ s i p = WalkInv table records texts s₀ p₀ route from s i p
+
+abbrev μ-loop : tie.MeasureT-loop
+μ-loop table records texts s₀ route from i₀ p₀ s i p = route .count - i
+
+pub walk-path-spec : {M : Type 1} → statement M
+walk-path-spec =
+    tie.close
+    (tie.spec
+    Inv-loop
+    μ-loop
+    (λ c. search walks)
+    (λ c κs. search needs)
+    (λ c κs. search needs)
+    (λ c. search needs)
+    (λ c. search needs)
+    (λ c. search walks)
+    (λ c. search needs)
+    (λ c. search walks))

@@ -1,0 +1,14 @@
+-- laws: bounds
+use Rattle.read_bounds.proofs.Inputs.{bounds}
+use borrow.Author.Needs.{needs}
+use Rattle.read_bounds.proofs.fits.Statement.{statement}
+use Rattle.read_bounds.proofs.fits.Tie as tie
+
+pub fits-spec : {M : Type 1} → statement M
+fits-spec =
+    tie.close
+    (tie.spec
+    (λ c. search bounds)
+    (λ c κs. search needs)
+    (λ c. search bounds)
+    (λ c. search bounds))

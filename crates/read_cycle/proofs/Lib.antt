@@ -1,0 +1,16 @@
+pub mod Members
+pub mod Pieces
+pub mod ValueRuns
+pub mod Stepping
+pub mod Lists
+pub mod Parting
+pub mod Piecing
+pub mod Containers
+pub mod Arrays
+pub mod Objects
+pub mod ElementLaws
+pub mod FieldLaws
+pub mod FieldValueLaws
+pub mod ValueLaws
+pub mod StepLaws
+pub mod PieceLaws

@@ -1,0 +1,4 @@
+pub mod Openings
+pub mod Endings
+pub mod Held
+pub mod References

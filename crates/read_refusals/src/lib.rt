@@ -1,0 +1,1 @@
+// What the promises of reading say of each refusal: theorems, no code.

@@ -1,3 +1,0 @@
-pub mod Scan
-pub mod Numbers
-pub mod Words

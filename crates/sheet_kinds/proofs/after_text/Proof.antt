@@ -1,0 +1,22 @@
+-- laws: texts
+use Rattle.sheet_kinds.proofs.Records.{texts}
+use borrow.Author.Needs.{needs}
+use Rattle.sheet_kinds.proofs.after_text.Statement.{statement}
+use Rattle.sheet_kinds.proofs.after_text.Tie as tie
+
+pub after-text-spec : {M : Type 1} → statement M
+after-text-spec =
+    tie.close
+    (tie.spec
+    (λ c. search needs)
+    (λ c. search texts)
+    (λ c κs. search needs)
+    (λ c. search needs)
+    (λ c κs. search needs)
+    (λ c. search needs)
+    (λ c κs. search needs)
+    (λ c. search needs)
+    (λ c. search texts)
+    (λ c. search needs)
+    (λ c. search texts)
+    (λ c. search texts))

@@ -1,0 +1,13 @@
+-- laws: starts
+use Rattle.sheet_kinds.proofs.Records.{starts}
+use borrow.Author.Needs.{needs}
+use Rattle.sheet_kinds.proofs.value_start.Statement.{statement}
+use Rattle.sheet_kinds.proofs.value_start.Tie as tie
+
+pub value-start-spec : {M : Type 1} → statement M
+value-start-spec =
+    tie.close
+    (tie.spec
+    (λ c κs. search needs)
+    (λ c. search starts)
+    (λ c. search starts))

@@ -1,0 +1,93 @@
+// The value that a path names in a table: one member after another, then the part of the records that is the value.
+// Computes: LookUp (valueNamed), Jobs (foundAt)
+use codes::limits;
+use codes::refusals;
+use job_answers::Found;
+use sheet_kinds::End;
+use text_chars::DocAt;
+use text_chars::RecAt;
+use text_chars::RecLen;
+use text_chars::TextAt;
+use text_chars::TextLen;
+ghost use Prim.Native.Nat.{_≤_};
+ghost use lib.ListN.{length};
+ghost use Rattle.rules.specs.Sizes.{maxRoom, maxPath};
+ghost use Rattle.sheet_kinds.specs.Contracts.{nearRoom};
+ghost use Rattle.text_marks.specs.Marks.{marksRoom};
+ghost use Rattle.sheet_paths.specs.Contracts.{NextIs, ValueNamedIs, PartIs, PartNamedIs};
+
+// The value of the member whose key is a part of the path's text.
+fn next_value(table: &[u8], text: &[u8], names: &[u8], from: TextAt, end: TextAt, at: RecAt) -> End
+    requires { ⌜ (length (now table) ≤ maxRoom) × (length (now text) ≤ maxRoom) × (at .0 ≤ nearRoom) ⌝ }
+    ensures { λ r. ⌜ NextIs (now (table .entry)) (now (text .entry)) (now (names .entry)) (from .0) (end .0) (at .0) r ⌝ }
+{
+    let a = from.0;
+    let b = end.0;
+    if b < a {
+        return End::Nowhere;
+    }
+    if names.len() < b {
+        return End::Nowhere;
+    }
+    sheet_records::member(table, text, &names[a..b], at)
+}
+
+// The value that a path names. The texts of its elements stand one behind the other, and the marks tell their ends.
+fn value_named(table: &[u8], text: &[u8], names: &[u8], marks: &[usize], count: usize) -> End
+    requires { ⌜ (length (now table) ≤ maxRoom) × (length (now text) ≤ maxRoom) × (marksRoom ≤ length (now marks)) × (count ≤ maxPath) ⌝ }
+    ensures { λ r. ⌜ ValueNamedIs (now (table .entry)) (now (text .entry)) (now (names .entry)) (now (marks .entry)) count r ⌝ }
+{
+    let mut at = RecAt(0);
+    let mut from = TextAt(0);
+    let mut i = 0;
+    while i < count {
+        let end = text_marks::end_at(marks, i);
+        match next_value(table, text, names, from, end, at) {
+            End::Nowhere => {
+                return End::Nowhere;
+            }
+            End::At(p) => {
+                at = p;
+                from = end;
+                i += 1;
+            }
+        }
+    }
+    End::At(at)
+}
+
+// The part of the table that is the value at a place.
+fn part_at(table: &[u8], limit: TextLen, at: RecAt) -> Found
+    requires { ⌜ (length (now table) ≤ maxRoom) × (at .0 ≤ nearRoom) ⌝ }
+    ensures { λ r. ⌜ PartIs (now (table .entry)) (limit .0) (at .0) r ⌝ }
+{
+    match sheet_records::value_end(table, limit, at, limits::NESTING) {
+        End::At(end) => {
+            let a = at.0;
+            let e = end.0;
+            Found::Part {
+                start: at,
+                size: RecLen(e - a),
+            }
+        }
+        // In a whole table each value has its end. Elsewhere the rules have number 0 and an empty part, and so has this.
+        End::Nowhere => Found::Part {
+            start: RecAt(0),
+            size: RecLen(0),
+        },
+    }
+}
+
+/// What a path of so many elements names: the part that is the value, or number 16.
+pub fn part_named(table: &[u8], text: &[u8], names: &[u8], marks: &[usize], count: usize) -> Found
+    requires { ⌜ (length (now table) ≤ maxRoom) × (length (now text) ≤ maxRoom) × (marksRoom ≤ length (now marks)) × (count ≤ maxPath) ⌝ }
+    ensures { λ r. ⌜ PartNamedIs (now (table .entry)) (now (text .entry)) (now (names .entry)) (now (marks .entry)) count r ⌝ }
+{
+    match value_named(table, text, names, marks, count) {
+        End::At(place) => part_at(table, TextLen(text.len()), place),
+        End::Nowhere => Found::Refused {
+            number: refusals::NOT_FOUND,
+            place: DocAt(0),
+        },
+    }
+}

@@ -1,0 +1,15 @@
+-- laws: wholes
+use Rattle.sheet_records.proofs.Values.{wholes}
+use borrow.Author.Needs.{needs}
+use Rattle.sheet_records.proofs.is_whole.Statement.{statement}
+use Rattle.sheet_records.proofs.is_whole.Tie as tie
+
+pub is-whole-spec : {M : Type 1} → statement M
+is-whole-spec =
+    tie.close
+    (tie.spec
+    (λ c κs. search needs)
+    (λ c. search needs)
+    (λ c. search needs)
+    (λ c. search wholes)
+    (λ c. search wholes))

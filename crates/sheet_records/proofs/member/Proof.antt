@@ -1,0 +1,17 @@
+-- laws: objects
+use Rattle.sheet_records.proofs.Keys.{objects}
+use borrow.Author.Needs.{needs}
+use Rattle.sheet_records.proofs.member.Statement.{statement}
+use Rattle.sheet_records.proofs.member.Tie as tie
+
+pub member-spec : {M : Type 1} → statement M
+member-spec =
+    tie.close
+    (tie.spec
+    (λ c κs. search needs)
+    (λ c. search needs)
+    (λ c κs. search objects)
+    (λ c. search needs)
+    (λ c κs. search objects)
+    (λ c. search objects)
+    (λ c. search objects))

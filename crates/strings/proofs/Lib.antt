@@ -1,9 +1,0 @@
-pub mod Ranges
-pub mod Digits
-pub mod Points
-pub mod Buffers
-pub mod Runs
-pub mod Escaping
-pub mod Pieces
-pub mod Bodies
-pub mod Whole

@@ -1,0 +1,5 @@
+pub mod Cursor
+pub mod Seen
+pub mod Parts
+pub mod Bounds
+pub mod Clash

@@ -1,0 +1,5 @@
+pub mod Marks
+pub mod Marking
+pub mod Holding
+pub mod Judging
+pub mod Verdicts

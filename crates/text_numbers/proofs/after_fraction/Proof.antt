@@ -1,0 +1,17 @@
+-- laws: fractions
+use Rattle.text_numbers.proofs.Digits.{fractions}
+use borrow.Author.Needs.{needs}
+use Rattle.text_numbers.proofs.after_fraction.Statement.{statement}
+use Rattle.text_numbers.proofs.after_fraction.Tie as tie
+
+pub after-fraction-spec : {M : Type 1} → statement M
+after-fraction-spec =
+    tie.close
+    (tie.spec
+    (λ c κs. search needs)
+    (λ c κs. search needs)
+    (λ c κs. search needs)
+    (λ c κs. search needs)
+    (λ c. search fractions)
+    (λ c. search fractions)
+    (λ c. search fractions))

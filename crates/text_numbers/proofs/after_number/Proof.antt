@@ -1,0 +1,10 @@
+-- laws: numbers
+use Rattle.text_numbers.proofs.Digits.{numbers}
+use borrow.Author.Needs.{needs}
+use Rattle.text_numbers.proofs.after_number.Statement.{statement}
+use Rattle.text_numbers.proofs.after_number.Tie as tie
+
+pub after-number-spec : {M : Type 1} → statement M
+after-number-spec =
+    tie.close
+    (tie.spec (λ c κs. search needs) (λ c κs. search needs) (λ c. search numbers) (λ c κs. search needs) (λ c. search numbers))

@@ -1,0 +1,3 @@
+pub mod Segments
+pub mod Whole
+pub mod Texts

@@ -1,0 +1,14 @@
+-- laws: spaces
+use Rattle.text_scan.proofs.Spaces.{spaces}
+use Rattle.text_scan.proofs.is_space.Statement.{statement}
+use Rattle.text_scan.proofs.is_space.Tie as tie
+
+pub is-space-spec : {M : Type 1} → statement M
+is-space-spec =
+    tie.close
+    (tie.spec
+    (λ c. search spaces)
+    (λ c. search spaces)
+    (λ c. search spaces)
+    (λ c. search spaces)
+    (λ c. search spaces))

@@ -1,0 +1,9 @@
+-- laws: advances-so
+use Rattle.text_segments.proofs.Advancing.{advances-so}
+use borrow.Author.Needs.{needs}
+use Rattle.text_segments.proofs.advance.Statement.{statement}
+use Rattle.text_segments.proofs.advance.Tie as tie
+
+pub advance-spec : {M : Type 1} → statement M
+advance-spec =
+    tie.close (tie.spec (λ c κs. search needs) (λ c κs. search needs) (λ c. search needs) (λ c. search needs) (λ c. search advances-so))

@@ -1,0 +1,5 @@
+pub mod Model
+pub mod Holding
+pub mod Pieces
+pub mod Keeping
+pub mod Joining

@@ -1,0 +1,3 @@
+pub mod Digits
+pub mod Encodes
+pub mod Copies

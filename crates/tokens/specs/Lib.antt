@@ -1,3 +1,0 @@
-pub mod Scalars
-pub mod References
-pub mod Keys
