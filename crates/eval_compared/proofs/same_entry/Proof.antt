@@ -1,0 +1,17 @@
+-- laws: entry-laws
+use Rattle.eval_compared.proofs.Compared.{entry-laws}
+use borrow.Author.Needs.{needs}
+use Rattle.eval_compared.proofs.same_entry.Statement.{statement}
+use Rattle.eval_compared.proofs.same_entry.Tie as tie
+
+pub same-entry-spec : {M : Type 1} → statement M
+same-entry-spec =
+    tie.close
+    (tie.spec
+    (λ c κs. search needs)
+    (λ c. search needs)
+    (λ c. search needs)
+    (λ c. search needs)
+    (λ c κs. search needs)
+    (λ c. search entry-laws)
+    (λ c. search entry-laws))

@@ -1,0 +1,14 @@
+-- laws: finished-laws
+use Rattle.eval_copies.proofs.Copying.{finished-laws}
+use borrow.Author.Needs.{needs}
+use Rattle.eval_copies.proofs.copy_finished.Statement.{statement}
+use Rattle.eval_copies.proofs.copy_finished.Tie as tie
+
+pub copy-finished-spec : {M : Type 1} → statement M
+copy-finished-spec =
+    tie.close
+    (tie.spec
+    (λ c. search needs)
+    (λ c κs. search needs)
+    (λ c. search needs)
+    (λ c. search finished-laws))

@@ -1,0 +1,5 @@
+pub mod Model
+pub mod Contracts
+pub mod Steps
+pub mod Copies
+mod Examples

@@ -1,0 +1,10 @@
+pub mod Texts
+pub mod Columns
+pub mod Numbers
+pub mod Finding
+pub mod Adding
+pub mod Stores
+pub mod Contracts
+pub mod Uses
+pub mod Documents
+pub mod Examples

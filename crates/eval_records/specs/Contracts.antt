@@ -1,0 +1,39 @@
+-- What the functions promise, by the model.
+use mathlib.Core.Path.{_≡_}
+use Prim.Native.Nat.{ℕ, _+_, _*_, _≤_}
+use mathlib.Core.List.{List, _∷_}
+use lib.ListN.{length}
+use Rattle.rules.specs.Sheet.{two}
+use Rattle.eval_writer.specs.Contracts.{longestText, Puts, Wrote}
+use Rattle.eval_writer.specs.declared.Out.{Out}
+use Rattle.eval_records.specs.Model.{Act, pairC}
+use Rattle.eval_records.specs.declared.Copied.{Copied}
+
+-- A job's bytes are fewer, and counters begin lower: these leave room, so that no sum wraps.
+abbrev pub mostBytes : ℕ
+mostBytes = 1048576
+
+abbrev pub farthest : ℕ
+farthest = 4294967296
+
+pub record PairIs (s : List ℕ) (p r : ℕ) : Type 0 where
+  pub is : r ≡ pairC s p
+  pub small : r ≤ longestText
+
+-- counters grow no quicker than places in the bytes
+pub record Span (s : List ℕ) (p : ℕ) (o : Out) : Type 0 where
+  pub rec : o .rec .0 ≤ farthest + p
+  pub text : o .text .0 ≤ farthest + 65535 * p
+  pub bytes : length s ≤ mostBytes
+
+-- what was copied; x: how far past the bytes' end the next place may be
+pub record CopiedIs (s : List ℕ) (x : ℕ) (m : Act) (o : Out) (r : Copied) (b a : List ℕ) : Type 0 where
+  pub is : Wrote (m .xs) (m .ws) o (r .out) b a
+  pub next : r .next .0 ≡ m .next
+  pub deep : r .deep ≡ m .deep
+  pub span : Span s (r .next .0) (r .out)
+  pub far : r .next .0 ≤ length s + x
+
+pub record HeadIs (s : List ℕ) (k p rec r : ℕ) (b a : List ℕ) : Type 0 where
+  pub count : PairIs s (p + 1) r
+  pub head : Puts rec (k ∷ two r) b a

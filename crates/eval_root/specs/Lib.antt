@@ -1,0 +1,4 @@
+pub mod Links
+pub mod Contracts
+pub mod Documents
+pub mod Examples

@@ -1,0 +1,10 @@
+-- laws: two-is
+use Rattle.eval_writer.proofs.Records.{two-is}
+use borrow.Author.Needs.{needs}
+use Rattle.eval_writer.proofs.put_two.Statement.{statement}
+use Rattle.eval_writer.proofs.put_two.Tie as tie
+
+pub put-two-spec : {M : Type 1} → statement M
+put-two-spec =
+    tie.close
+    (tie.spec (λ c κs. search needs) (λ c κs. search needs) (λ c. search needs) (λ c κs. search needs) (λ c κs. search needs) (λ c. search needs) (λ c. search two-is))

@@ -1,0 +1,6 @@
+pub mod Model
+pub mod Contracts
+pub mod Composition
+pub mod Keys
+pub mod Building
+mod Examples

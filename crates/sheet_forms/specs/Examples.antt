@@ -1,0 +1,28 @@
+-- The records of { k: 12, l: [null, "xy"] } as kept, one by one.
+use mathlib.Core.Path.{_≡_, refl}
+use Rattle.sheet_kept.specs.Examples.{asKept}
+use Rattle.sheet_forms.specs.Model.{recordC}
+use Rattle.sheet_forms.specs.declared.Form.{Form}
+use Rattle.sheet_forms.specs.declared.Record.{Record}
+
+object-head : recordC Form.Public asKept 27 0 256 ≡ Record.Three 7 0 2
+unfolding recordC
+object-head = refl
+
+-- the key with the number 260: kept so, and public with its text's offset
+key-kept : recordC Form.Kept asKept 27 13 259 ≡ Record.Five 8 1 4 0 1
+unfolding recordC
+key-kept = refl
+
+key-public : recordC Form.Public asKept 27 13 259 ≡ Record.Five 8 1 3 0 1
+unfolding recordC
+key-public = refl
+
+null-is-one-byte : recordC Form.Public asKept 27 21 260 ≡ Record.One 1
+unfolding recordC
+null-is-one-byte = refl
+
+-- a record that is cut short is none
+cut-short : recordC Form.Public asKept 26 22 260 ≡ Record.End
+unfolding recordC
+cut-short = refl

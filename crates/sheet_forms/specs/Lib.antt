@@ -1,0 +1,4 @@
+pub mod Model
+pub mod Contracts
+pub mod Sheet
+mod Examples

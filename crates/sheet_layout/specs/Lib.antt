@@ -1,0 +1,5 @@
+pub mod Model
+pub mod Contracts
+pub mod Compared
+pub mod Sheet
+mod Examples
