@@ -16,7 +16,8 @@ use Rattle.text_chars.specs.Parts.{part, back, part-length, back-length}
 use Rattle.read_grammar.specs.Decisions.{closes}
 use Rattle.read_limits.specs.Limits.{Begins, PieceStartIs}
 use Rattle.read_pieces.specs.Pieces.{Nested, ContainerPieceIs}
-use Rattle.read_steps.specs.Steps.{ScalarPieceAsked, Plain, ScalarPieceIs, ReferencePieceAsked, Linked, ReferencePieceIs}
+use Rattle.read_steps.specs.Steps.{ScalarPieceAsked, Plain, ScalarPieceIs}
+use Rattle.read_references.specs.ReferencePieces.{ReferencePieceAsked, Linked, ReferencePieceIs}
 use Rattle.read_limits.specs.declared.Beginning.{Beginning}
 use Rattle.read_pieces.specs.declared.Listed.{Listed}
 use Rattle.read_pieces.specs.declared.PieceRead.{PieceRead}

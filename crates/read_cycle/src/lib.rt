@@ -323,7 +323,7 @@ fn piece(
         Beginning::Nothing => PieceRead::End,
         Beginning::Refused { number, place } => PieceRead::Refused { number, place },
         Beginning::Scalar => read_steps::scalar_piece(s, c, w, items, text),
-        Beginning::Reference => read_steps::reference_piece(s, c, w, items, text),
+        Beginning::Reference => read_references::reference_piece(s, c, w, items, text),
         Beginning::Object(next) => {
             let d = next.at;
             let v = 2 * d.0 - w.0;

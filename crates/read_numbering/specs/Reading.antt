@@ -13,11 +13,13 @@ use Rattle.rules.specs.Refusals.{Refusal, placed, Read, got, refused, readThen,
 use Rattle.rules.specs.Characters.{afterInline, afterGap}
 use Rattle.rules.specs.Pieces.{simpleAt}
 use Rattle.rules.specs.Paths.{Segment, Element, startsInclude, segmentsAt, elementsOf, judge, keysOf, substitutionAt}
-use Rattle.rules.specs.Tree.{Key, Node, simple, array, object, unresolved, Elements, no-elements, element, Fields, no-fields, field, Pieces, no-pieces, nodePiece, substituted, Root, rootNode, joinElements, joinFields, AllNode, AllElements, AllFields, AllPieces}
-use Rattle.rules.specs.Reading.{Start, brace, bracket, dollar, simpleStart, startOf, Part, node, substitution, withPart, countItem, piecesFrom, hasSubstitution, kindOf, unlike, elementsJoined, fieldsJoined, simpleJoined, joined, judgeValue, theEnd, parted, membersFrom, membersAt, FieldRead, inside, fieldsOf, elementsFrom, valuePlace, allowedKeys, opened, fieldWith, fieldJudged, fieldAt, elementAt, arrayAt, objectAt, pieceAt, valueFrom, rootAt, readRoot}
+use Rattle.rules.specs.Tree.{Key, Node, simple, array, object, unresolved, Pieces, no-pieces, nodePiece, substituted, Root, rootNode, AllNode, AllElements, AllFields, AllPieces}
+use Rattle.rules.specs.Reading.{Start, brace, bracket, dollar, simpleStart, startOf, Part, node, substitution, withPart, countItem, piecesFrom, hasSubstitution, kindOf, unlike, simpleJoined, joined, judgeValue, theEnd, parted, membersFrom, membersAt, FieldRead, valuePlace, allowedKeys, opened, fieldWith, fieldJudged, fieldAt, elementAt, arrayAt, objectAt, pieceAt, valueFrom, rootAt, readRoot}
 use Rattle.rules.specs.Utf8.{illFormed}
 use Rattle.rules.specs.Documents.{readTree}
 use Rattle.theory.specs.Choices.{by-test, by-option}
+use Rattle.theory.specs.Reach.{Each}
+use Rattle.theory.specs.TreeParts.{elements-joined, fields-joined, inside-all, fields-all, elements-all}
 use Rattle.doc_items.specs.Joining.{Simples}
 use Rattle.read_numbering.specs.Contracts.{AsRead}
 
@@ -38,10 +40,6 @@ Nothing a = Unit {0}
 gives-nothing : {A : Type 0} (x : Read A) → Gives Nothing x
 gives-nothing (got a at items) = tt
 gives-nothing (refused x) = tt
-
-abbrev Each : {A : Type 0} → (A → Type 0) → List A → Type 0
-Each P [] = Unit {0}
-Each P (a ∷ l) = P a × Each P l
 
 -- ---- pieces
 
@@ -83,42 +81,14 @@ pieces-whole (suc n) pieceAt s from at items h =
 
 -- ---- what pieces make
 
-join-elements : (es fs : Elements) → AllElements AsRead es → AllElements AsRead fs → AllElements AsRead (joinElements es fs)
-unfolding joinElements
-join-elements no-elements fs a b = b
-join-elements (element n es) fs a b = (a .0, join-elements es fs (a .1) b)
-
-join-fields : (fs gs : Fields) → AllFields AsRead fs → AllFields AsRead gs → AllFields AsRead (joinFields fs gs)
-unfolding joinFields
-join-fields no-fields gs a b = b
-join-fields (field k n fs) gs a b = (a .0, join-fields fs gs (a .1) b)
-
-elements-joined : (ps : Pieces) → AllPieces AsRead ps → AllElements AsRead (elementsJoined ps)
-unfolding elementsJoined
-elements-joined no-pieces a = tt
-elements-joined (nodePiece place gap (simple x) ps) a = elements-joined ps (a .1)
-elements-joined (nodePiece place gap (array es) ps) a = join-elements es (elementsJoined ps) (a .0) (elements-joined ps (a .1))
-elements-joined (nodePiece place gap (object fs) ps) a = elements-joined ps (a .1)
-elements-joined (nodePiece place gap (unresolved b qs) ps) a = elements-joined ps (a .1)
-elements-joined (substituted gap x ps) a = elements-joined ps a
-
-fields-joined : (ps : Pieces) → AllPieces AsRead ps → AllFields AsRead (fieldsJoined ps)
-unfolding fieldsJoined
-fields-joined no-pieces a = tt
-fields-joined (nodePiece place gap (simple x) ps) a = fields-joined ps (a .1)
-fields-joined (nodePiece place gap (array es) ps) a = fields-joined ps (a .1)
-fields-joined (nodePiece place gap (object fs) ps) a = join-fields fs (fieldsJoined ps) (a .0) (fields-joined ps (a .1))
-fields-joined (nodePiece place gap (unresolved b qs) ps) a = fields-joined ps (a .1)
-fields-joined (substituted gap x ps) a = fields-joined ps a
-
 joined-whole : (place : ℕ) (gap : Text) (n : Node) (ps : Pieces) → WholePieces (nodePiece place gap n ps)
     → Whole (joined n (nodePiece place gap n ps) ps)
 unfolding joined simpleJoined
 joined-whole place gap (simple x) no-pieces w = tt
 joined-whole place gap (simple x) (nodePiece p g n ps) w = tt
 joined-whole place gap (simple x) (substituted g y ps) w = tt
-joined-whole place gap (array es) ps w = elements-joined (nodePiece place gap (array es) ps) (w .0)
-joined-whole place gap (object fs) ps w = fields-joined (nodePiece place gap (object fs) ps) (w .0)
+joined-whole place gap (array es) ps w = elements-joined AsRead (nodePiece place gap (array es) ps) (w .0)
+joined-whole place gap (object fs) ps w = fields-joined AsRead (nodePiece place gap (object fs) ps) (w .0)
 joined-whole place gap (unresolved b qs) ps w = absurd (w .1)
 
 judged-whole : (ps : Pieces) (at items : ℕ) → WholePieces ps → Gives Whole (judgeValue ps at items)
@@ -147,21 +117,6 @@ members-whole P (suc n) closing memberAt s at items h =
 abbrev WholeField : FieldRead → Type 0
 WholeField m = Whole (m .value)
 
-inside-whole : (ks : List Key) (n : Node) → Whole n → Whole (inside ks n)
-unfolding inside
-inside-whole [] n w = w
-inside-whole (k ∷ ks) n w = (inside-whole ks n w, tt)
-
-fields-whole : (ms : List FieldRead) → Each WholeField ms → AllFields AsRead (fieldsOf ms)
-unfolding fieldsOf
-fields-whole [] w = tt
-fields-whole (m ∷ ms) w = (w .0, fields-whole ms (w .1))
-
-elements-whole : (ns : List Node) → Each Whole ns → AllElements AsRead (elementsFrom ns)
-unfolding elementsFrom
-elements-whole [] w = tt
-elements-whole (n ∷ ns) w = (w .0, elements-whole ns (w .1))
-
 module _ (valueAt : ℕ → ℕ → ℕ → Read Node) (h : (nesting at items : ℕ) → Gives Whole (valueAt nesting at items)) where
   field-with : (s : List ℕ) (nesting at items : ℕ) (ks : List Key) → Gives WholeField (fieldWith valueAt s nesting at items ks)
   unfolding fieldWith
@@ -170,7 +125,7 @@ module _ (valueAt : ℕ → ℕ → ℕ → Read Node) (h : (nesting at items : 
       gives-then Nothing WholeField (keepItems (items + suc (length ks)) (valuePlace s at)) _ (gives-nothing (keepItems (items + suc (length ks)) (valuePlace s at)))
       (λ p place items₁ z.
       gives-then Whole WholeField (valueAt (nesting + length ks) place items₁) _ (h (nesting + length ks) place items₁)
-      (λ n end items₂ w. inside-whole ks n w))
+      (λ n end items₂ w. inside-all AsRead ks n w))
 
   field-judged : (s : List ℕ) (nesting at items : ℕ) (es : List Element) (o : Option Refusal)
       → Gives WholeField (fieldJudged valueAt s nesting at items es o)
@@ -206,14 +161,14 @@ module _ (valueAt : ℕ → ℕ → ℕ → Read Node) (h : (nesting at items : 
   array-whole s nesting at items =
       gives-then (Each Whole) (AllElements AsRead) (membersAt 93 (elementAt valueAt s nesting) s at items) _
       (members-whole Whole (suc (length s)) 93 (elementAt valueAt s nesting) s (afterGap s at) items (λ a i. element-whole s nesting a i))
-      (λ ns end items₁ w. elements-whole ns w)
+      (λ ns end items₁ w. elements-all AsRead ns w)
 
   object-whole : (closing : ℕ) (s : List ℕ) (nesting at items : ℕ) → Gives (AllFields AsRead) (objectAt valueAt closing s nesting at items)
   unfolding objectAt membersAt
   object-whole closing s nesting at items =
       gives-then (Each WholeField) (AllFields AsRead) (membersAt closing (fieldAt valueAt s nesting) s at items) _
       (members-whole WholeField (suc (length s)) closing (fieldAt valueAt s nesting) s (afterGap s at) items (λ a i. field-whole s nesting a i))
-      (λ ms end items₁ w. fields-whole ms w)
+      (λ ms end items₁ w. fields-all AsRead ms w)
 
   piece-whole : (s : List ℕ) (nesting : ℕ) (start : Start) (at items : ℕ) → Gives WholePart (pieceAt valueAt s nesting start at items)
   unfolding pieceAt opened

@@ -2,3 +2,4 @@ pub mod Openings
 pub mod Endings
 pub mod Held
 pub mod References
+pub mod Parts

@@ -1,27 +1,32 @@
-// Substitutions: whether each is optional, and its path, whose texts and ends stand in a buffer that the caller lends.
-// Computes: Paths
+// Substitutions as pieces of a value: whether each is optional, and its path, whose texts and ends stand in a buffer that the caller
+// lends.
+// Computes: Paths (`substitutionAt`)
 use codes::bytes;
 use codes::limits;
+use read_pieces::PieceItem;
+use read_pieces::PieceRead;
 use text_chars::Cursor;
 use text_chars::DocAt;
+use text_chars::TextAt;
 use text_chars::TextLen;
 use text_marks::Verdict;
 use text_paths::Joined;
 ghost use Rattle.text_paths.specs.Whole.{ElementsAsked};
 ghost use Rattle.read_references.specs.References.{OpenedAsked, OpenedIs, BraceAsked, BraceIs, BetweenIs};
 ghost use Rattle.read_references.specs.References.{EndsAsked, EndsIs, ReferenceAsked, ReferenceIs};
+ghost use Rattle.read_references.specs.ReferencePieces.{ReferencePieceAsked, ReferencePieceIs};
 
-/// A substitution that was read. The texts of its path's elements stand at the start of the buffer one behind the other, and behind them
-/// the end of each in two bytes.
-pub enum ReferenceRead {
-    /// whether it is optional, how many elements its path has, the size of their texts, and the cursor past it
+// A substitution that was read. The texts of its path's elements stand at the start of the buffer one behind the other, and behind them
+// the end of each in two bytes.
+enum ReferenceRead {
+    // whether it is optional, how many elements its path has, the size of their texts, and the cursor past it
     Done {
         optional: bool,
         count: usize,
         size: TextLen,
         next: Cursor,
     },
-    /// it is refused with a number at a place
+    // it is refused with a number at a place
     Refused {
         number: u8,
         place: DocAt,
@@ -141,8 +146,8 @@ fn write_ends(marks: &[usize], count: usize, text: &mut [u8]) -> TextLen
     TextLen(size)
 }
 
-/// The substitution at a `${`.
-pub fn reference(s: &[u8], c: Cursor, text: &mut [u8]) -> ReferenceRead
+// The substitution at a `${`.
+fn reference(s: &[u8], c: Cursor, text: &mut [u8]) -> ReferenceRead
     requires { ⌜ ReferenceAsked (now s) (c .at .0) (now text) ⌝ }
     ensures { λ r. ⌜ ReferenceIs (now (s .entry)) (c .at .0) (now (text .entry)) (now (text .exit)) r ⌝ }
 {
@@ -159,5 +164,28 @@ pub fn reference(s: &[u8], c: Cursor, text: &mut [u8]) -> ReferenceRead
             size: write_ends(&marks, count, text),
             next,
         },
+    }
+}
+
+/// The substitution at a `${` as a piece, its path at the start of the text part.
+pub fn reference_piece(s: &[u8], c: Cursor, w: TextAt, items: usize, text: &mut [u8]) -> PieceRead
+    requires { ⌜ ReferencePieceAsked (now s) (c .at .0) items (now text) ⌝ }
+    ensures { λ r. ⌜ ReferencePieceIs (now (s .entry)) (c .at .0) (w .0) items (now (text .entry)) (now (text .exit)) r ⌝ }
+{
+    match reference(s, c, text) {
+        ReferenceRead::Refused { number, place } => PieceRead::Refused { number, place },
+        ReferenceRead::Done {
+            optional,
+            count,
+            size,
+            next,
+        } => PieceRead::Done(PieceItem {
+            next,
+            items: items + 1,
+            kind: read_pieces::reference_kind(optional),
+            text: w,
+            size,
+            number: count,
+        }),
     }
 }

@@ -1,21 +1,15 @@
--- One law for each answer of the functions that give a piece.
-use mathlib.Core.Path.{_≡_, refl, sym, _∙_, ap}
-use mathlib.Core.Bool.{Bool}
+-- One law for each answer of `scalar_piece`.
+use mathlib.Core.Path.{_≡_, refl}
 use mathlib.Core.List.{List}
 use Prim.Native.Nat.{ℕ, _+_}
 use Rattle.text_chars.specs.declared.DocAt.{DocAt}
 use Rattle.text_chars.specs.declared.TextAt.{TextAt}
 use Rattle.text_chars.specs.declared.TextLen.{TextLen}
 use Rattle.text_chars.specs.declared.Cursor.{Cursor}
-use Rattle.doc_items.specs.Codes.{referenceCode}
 use Rattle.read_scalars.specs.Scalars.{Scalars, ScalarIs}
-use Rattle.read_references.specs.References.{References, ReferenceIs}
 use Rattle.read_scalars.specs.declared.ScalarRead.{ScalarRead}
-use Rattle.read_references.specs.declared.ReferenceRead.{ReferenceRead}
-use Rattle.read_steps.specs.Steps.{ScalarPieceIs, ReferencePieceIs}
+use Rattle.read_steps.specs.Steps.{ScalarPieceIs}
 use Rattle.read_pieces.specs.declared.PieceRead.{PieceRead}
-
--- ---- a simple piece
 
 module _ {s : List ℕ} {at : ℕ} {before after : List ℕ} {r : ScalarRead} (h : ScalarIs s at before after r) where
   pub plain-refused : {w items k : ℕ} {p : DocAt} → r ≡ ScalarRead.Refused k p → ScalarPieceIs s at w items before after (PieceRead.Refused k p)
@@ -29,35 +23,3 @@ module _ {s : List ℕ} {at : ℕ} {before after : List ℕ} {r : ScalarRead} (h
       record { is = (t .0, t .1, refl, t .2, refl, t .3, t .4, refl, t .5, t .6, t .7); kept = h .kept }
 
 pub ruleset plains = (plain-refused, plain-done)
-
--- ---- a substitution
-
-module _ {s : List ℕ} {at : ℕ} {before after : List ℕ} {r : ReferenceRead} (h : ReferenceIs s at before after r) where
-  pub linked-refused : {w items k : ℕ} {p : DocAt} → r ≡ ReferenceRead.Refused k p → ReferencePieceIs s at w items before after (PieceRead.Refused k p)
-  linked-refused {k = k} {p = p} e =
-      let t : References s at after (ReferenceRead.Refused k p) = rw e at (h .is) in record { is = t; kept = h .kept }
-
-  pub linked-done : {items n k : ℕ} {o : Bool} {w : TextAt} {z : TextLen} {c : Cursor} → r ≡ ReferenceRead.Done o n z c → k ≡ referenceCode o
-      → ReferencePieceIs s at (w .0) items before after (PieceRead.Done (record { next = c; items = items + 1; kind = k; text = w; size = z; number = n }))
-  linked-done {n = n} {o = o} {z = z} {c = c} e f =
-      let t : References s at after (ReferenceRead.Done o n z c) = rw e at (h .is) in
-      record {
-        is = (
-          t .0,
-          t .1,
-          t .2,
-          refl,
-          f ∙ ap (λ (b : Bool). referenceCode b) (sym (t .3)),
-          refl,
-          t .4,
-          t .5,
-          t .6,
-          t .7,
-          t .8,
-          t .9,
-          t .10,
-        );
-        kept = h .kept;
-      }
-
-pub ruleset links = (linked-refused, linked-done)

@@ -1,4 +1,4 @@
-// The steps of reading that call no other reader: one simple piece or substitution, the item of a piece, and the items of a field and of
+// The steps of reading that call no other reader: one simple piece, the item of a piece, and the items of a field and of
 // an element.
 // Computes: Reading (`pieceAt`, `fieldAt`, `elementAt`, but for what they read by calling themselves)
 use codes::bytes;
@@ -8,14 +8,13 @@ use read_pieces::PieceItem;
 use read_pieces::PieceRead;
 use read_pieces::ValueStep;
 use read_pieces::Valued;
-use read_references::ReferenceRead;
 use read_scalars::ScalarRead;
 use read_values::Run;
 use text_chars::Cursor;
 use text_chars::DocAt;
 use text_chars::TextAt;
 use text_chars::TextLen;
-ghost use Rattle.read_steps.specs.Steps.{ScalarPieceAsked, ScalarPieceIs, ReferencePieceAsked, ReferencePieceIs};
+ghost use Rattle.read_steps.specs.Steps.{ScalarPieceAsked, ScalarPieceIs};
 ghost use Rattle.read_steps.specs.Steps.{PutPieceAsked, PutPieceIs, FinishPieceAsked, FinishPieceIs};
 ghost use Rattle.read_steps.specs.Steps.{FinishFieldAsked, FinishFieldIs, FinishElementAsked, FinishElementIs};
 
@@ -33,29 +32,6 @@ pub fn scalar_piece(s: &[u8], c: Cursor, w: TextAt, items: usize, text: &mut [u8
             text: w,
             size,
             number: 0,
-        }),
-    }
-}
-
-/// A substitution, its path at the start of the text part.
-pub fn reference_piece(s: &[u8], c: Cursor, w: TextAt, items: usize, text: &mut [u8]) -> PieceRead
-    requires { ⌜ ReferencePieceAsked (now s) (c .at .0) items (now text) ⌝ }
-    ensures { λ r. ⌜ ReferencePieceIs (now (s .entry)) (c .at .0) (w .0) items (now (text .entry)) (now (text .exit)) r ⌝ }
-{
-    match read_references::reference(s, c, text) {
-        ReferenceRead::Refused { number, place } => PieceRead::Refused { number, place },
-        ReferenceRead::Done {
-            optional,
-            count,
-            size,
-            next,
-        } => PieceRead::Done(PieceItem {
-            next,
-            items: items + 1,
-            kind: read_pieces::reference_kind(optional),
-            text: w,
-            size,
-            number: count,
         }),
     }
 }

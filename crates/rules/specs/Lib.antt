@@ -28,3 +28,4 @@ pub mod Counting
 pub mod Reordering
 pub mod Cases
 pub mod Examples
+pub mod EnvironmentExamples

@@ -10,9 +10,9 @@ use Rattle.rules.specs.Utf8.{encoded}
 use Rattle.rules.specs.Strings.{isHigh, isLow, mateOf, unicodeEscape}
 use Rattle.text_chars.specs.declared.DocAt.{DocAt}
 use Rattle.text_chars.specs.declared.Cursor.{Cursor}
-use Rattle.text_units.specs.Contracts.{unitScan, UnitFar, UnitIs, PairIs}
-use Rattle.text_units.specs.Ranges.{high-least, high-most, low-least, low-most}
-use Rattle.text_units.specs.declared.Unit.{Unit as CodeUnit}
+use Rattle.text_escapes.specs.Units.{unitScan, UnitFar, UnitIs, PairIs}
+use Rattle.text_escapes.specs.Ranges.{high-least, high-most, low-least, low-most}
+use Rattle.text_escapes.specs.declared.units.Unit.{Unit as CodeUnit}
 use Rattle.text_escapes.specs.Contracts.{expectScan, ExpectFar, ExpectIs, PointFar, PointIs}
 use Rattle.text_escapes.specs.declared.Expected.{Expected}
 use Rattle.text_escapes.specs.declared.CodePoint.{CodePoint}

@@ -1,2 +1,4 @@
 pub mod Contracts
 pub mod Answers
+pub mod Units
+pub mod Ranges

@@ -1,5 +1,7 @@
 // The escapes of a quoted string.
 // Computes: Strings
+mod units;
+
 use codes::bytes;
 use codes::letters;
 use codes::refusals;
@@ -7,18 +9,18 @@ use text_chars::Cursor;
 use text_chars::DocAt;
 use text_chars::Step;
 use text_chars::TextLen;
-use text_units::Unit;
 use text_units::encode;
-use text_units::hex_four;
-use text_units::is_high;
-use text_units::is_low;
-use text_units::pair;
+use units::Unit;
+use units::hex_four;
+use units::is_high;
+use units::is_low;
+use units::pair;
 ghost use mathlib.Core.Path.{_≡_};
 ghost use Prim.Native.Nat.{_+_, _-_, _≤_, _<_};
 ghost use lib.ListN.{length};
 ghost use Rattle.rules.specs.Sizes.{maxDocument};
 ghost use Rattle.rules.specs.Strings.{mateOf, unicodeEscape};
-ghost use Rattle.text_units.specs.Contracts.{High};
+ghost use Rattle.text_escapes.specs.Units.{High};
 ghost use Rattle.text_escapes.specs.Contracts.{LetterIs, ExpectIs, PointIs, EscapeIs};
 
 /// A string, or an escape of one, that was decoded into a buffer.

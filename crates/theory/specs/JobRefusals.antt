@@ -39,7 +39,8 @@ use Rattle.theory.specs.RuleRefusals.{Passes, Placed, places-any, resolv
 use Rattle.theory.specs.PathNumbers.{pathNumbers, path-text-numbers}
 use Rattle.theory.specs.LookUpSteps.{found-none, found-part}
 use Rattle.theory.specs.LookUps.{named-part}
-use Rattle.theory.specs.ReadingPlaces.{In, unresolved-places}
+use Rattle.theory.specs.ReadingPlaces.{In}
+use Rattle.theory.specs.DocumentPlaces.{unresolved-places}
 
 -- ---- what resolving refuses
 

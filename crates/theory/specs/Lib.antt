@@ -21,7 +21,9 @@ pub mod Reach
 pub mod Rules
 pub mod Resolving
 pub mod RuleRefusals
+pub mod TreeParts
 pub mod ReadingPlaces
+pub mod DocumentPlaces
 pub mod Settled
 pub mod Heights
 pub mod Depths

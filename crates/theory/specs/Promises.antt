@@ -29,7 +29,7 @@ use Rattle.rules.specs.Jobs.{refusedWith, roomOf, orderOf, resolveJob, buffersO
 use Rattle.rules.specs.Reordering.{LaidOut}
 use Rattle.theory.specs.Scanning.{Among, among-all, readingNumbers}
 use Rattle.theory.specs.ReadingEnds.{inputs-numbers}
-use Rattle.theory.specs.ReadingPlaces.{inputs-places}
+use Rattle.theory.specs.DocumentPlaces.{inputs-places}
 use Rattle.theory.specs.PathNumbers.{pathNumbers}
 use Rattle.theory.specs.LookUpSteps.{found-none, found-part, look-up-long, look-up-not-whole, look-up-ill-formed, look-up-bad-path, look-up-path}
 use Rattle.theory.specs.LookUps as looks

@@ -1,8 +1,8 @@
--- No reader of a document goes past its end: the place of a refusal is a place in the document, or its length, and so are the places of the
+-- No reader of a tree goes past the text's end: the place of a refusal is a place in the text, or its length, and so are the places of the
 -- pieces of unresolved values in what is read.
 use mathlib.Core.Path.{_≡_, refl, subst}
 use Prim.Native.Nat.{ℕ, zero, suc, _+_, _≤_, _<_}
-use mathlib.Core.Bool.{Bool, true, false, _||_, _&&_}
+use mathlib.Core.Bool.{Bool, true, false, _||_}
 use mathlib.Core.List.{List, [], _∷_}
 use mathlib.Core.Option.{Option, none, some}
 use native.Mathlib.Omega.{arith}
@@ -11,32 +11,31 @@ use lib.ListN.{length, getElem?}
 use lib.Seq.{slice}
 use borrow.Author.Tests.{leb-false, eqb-true}
 use Rattle.answers.specs.Theory.Sound.{clash}
-use Rattle.rules.specs.Sizes.{maxNesting, maxItems, maxPath, maxUnresolved, maxDocument}
+use Rattle.rules.specs.Sizes.{maxNesting, maxItems, maxPath}
 use Rattle.rules.specs.Bytes.{Text, byteAt}
-use Rattle.rules.specs.Refusals.{Refusal, nowhere, placeOf, spent, ended, notAllowed, Scan, ok, andThen, Read, got, refused, readThen, keepItems}
+use Rattle.rules.specs.Refusals.{Refusal, placeOf, spent, ended, notAllowed, Scan, ok, andThen, Read, got, refused, readThen, keepItems}
 use Rattle.rules.specs.Utf8.{illFormed}
-use Rattle.rules.specs.Environment.{Environment, entriesOf, textOf}
 use Rattle.rules.specs.Characters.{Gap, isSpace, characterAt, nextPlace, startsComment, lineEnd, gapFrom, gapAt, afterInline, afterGap}
 use Rattle.rules.specs.Pieces.{startsSimple, simpleAt}
 use Rattle.rules.specs.Paths.{Segment, Element, startsInclude, segmentsAt, elementsOf, anyEmpty, judge, judged, keysOf, braced, substitutionAt}
-use Rattle.rules.specs.Tree.{Key, Substitution, Node, simple, array, object, unresolved, Elements, no-elements, element, Fields, no-fields, field}
-use Rattle.rules.specs.Tree.{Pieces, no-pieces, nodePiece, substituted, Root, fields, elements, rootNode, joinElements, joinFields, firstPlace}
-use Rattle.rules.specs.Tree.{AllNode, AllElements, AllFields, AllPieces, numberNode, numberElements, numberFields, numberPieces, numberRoot}
+use Rattle.rules.specs.Tree.{Key, Substitution, Node, simple, array, object, unresolved}
+use Rattle.rules.specs.Tree.{Pieces, no-pieces, nodePiece, substituted, Root, rootNode}
+use Rattle.rules.specs.Tree.{AllNode, AllElements, AllFields, AllPieces}
 use Rattle.rules.specs.Reading.{Start, brace, bracket, dollar, simpleStart, startOf, Part, node, substitution, withPart, countItem, piecesFrom}
-use Rattle.rules.specs.Reading.{hasSubstitution, Kind, kindOf, sameKind, unlike, elementsJoined, fieldsJoined, simpleJoined, joined, judgeValue}
-use Rattle.rules.specs.Reading.{theEnd, afterClosing, parted, membersFrom, membersAt, FieldRead, inside, fieldsOf, elementsFrom, valuePlace}
+use Rattle.rules.specs.Reading.{hasSubstitution, Kind, kindOf, sameKind, unlike, simpleJoined, joined, judgeValue}
+use Rattle.rules.specs.Reading.{theEnd, afterClosing, parted, membersFrom, membersAt, FieldRead, valuePlace}
 use Rattle.rules.specs.Reading.{allowedKeys, opened, fieldWith, fieldJudged, fieldAt, elementAt, arrayAt, objectAt, pieceAt, valueFrom, rootAt, readRoot}
-use Rattle.rules.specs.Unresolved.{Openness, fieldOpenness, withField, inNode, inElements, inFields, inPieces, unresolvedIn}
-use Rattle.rules.specs.Documents.{Document, Setting, Input, valid, refused, limited, ofRoot, readTree, readDocument, withEnvironment, inputs}
+use Rattle.rules.specs.Documents.{refused, readTree}
 use Rattle.theory.specs.Choices.{by-test, by-option}
 use Rattle.theory.specs.Places.{byte-past, byte-inside, inside as inside-text}
 use Rattle.theory.specs.Lengths.{Within, elements-within}
 use Rattle.theory.specs.PathPlaces.{Stays, skip-stays, next-stays, simple-stays, inline-stays, segments-at-stay, element-within, ill-formed-place}
-use Rattle.theory.specs.Reach.{Each, each-append, each-at}
-use Rattle.theory.specs.RuleRefusals.{PlacesIn, Placed}
+use Rattle.theory.specs.Reach.{Each}
+use Rattle.theory.specs.TreeParts.{elements-joined, fields-joined, inside-all, fields-all, elements-all}
+use Rattle.theory.specs.RuleRefusals.{PlacesIn}
 
 -- what is read ends inside the text and has Q, or the refusal's place is inside; both may be the length
-data Kept {A : Type 0} (s : List ℕ) (Q : A → Type 0) : Read A → Type 0 where
+pub data Kept {A : Type 0} (s : List ℕ) (Q : A → Type 0) : Read A → Type 0 where
   gots : {a : A} {end items : ℕ} → end ≤ length s → Q a → Kept s Q (got a end items)
   read-refuses : {x : Refusal} → placeOf x ≤ length s → Kept s Q (refused x)
 
@@ -73,7 +72,7 @@ module _ (s : List ℕ) where
   abbrev pub In : ℕ → Type 0
   In p = p ≤ length s
 
-  abbrev PiecesIn : ℕ → Pieces → Type 0
+  abbrev pub PiecesIn : ℕ → Pieces → Type 0
   PiecesIn b ps = PlacesIn In ps
 
   disallowed-in : (at : ℕ) → In (placeOf (notAllowed s at))
@@ -165,7 +164,7 @@ module _ (s : List ℕ) where
   begun : (at : ℕ) (start : Start) → startOf s at ≡ some start → Begins at (some start)
   begun at start e = subst (Begins at) e (begins at)
 
-  abbrev NodeIn : Node → Type 0
+  abbrev pub NodeIn : Node → Type 0
   NodeIn n = AllNode PiecesIn n
 
   -- its own places, and those inside
@@ -211,42 +210,14 @@ module _ (s : List ℕ) where
 
   -- ---- what pieces make
 
-  join-elements : (es fs : Elements) → AllElements PiecesIn es → AllElements PiecesIn fs → AllElements PiecesIn (joinElements es fs)
-  unfolding joinElements
-  join-elements no-elements fs a b = b
-  join-elements (element n es) fs a b = (a .0, join-elements es fs (a .1) b)
-
-  join-fields : (fs gs : Fields) → AllFields PiecesIn fs → AllFields PiecesIn gs → AllFields PiecesIn (joinFields fs gs)
-  unfolding joinFields
-  join-fields no-fields gs a b = b
-  join-fields (field k n fs) gs a b = (a .0, join-fields fs gs (a .1) b)
-
-  elements-joined : (ps : Pieces) → AllPieces PiecesIn ps → AllElements PiecesIn (elementsJoined ps)
-  unfolding elementsJoined
-  elements-joined no-pieces a = tt
-  elements-joined (nodePiece place gap (simple x) ps) a = elements-joined ps (a .1)
-  elements-joined (nodePiece place gap (array es) ps) a = join-elements es (elementsJoined ps) (a .0) (elements-joined ps (a .1))
-  elements-joined (nodePiece place gap (object fs) ps) a = elements-joined ps (a .1)
-  elements-joined (nodePiece place gap (unresolved b qs) ps) a = elements-joined ps (a .1)
-  elements-joined (substituted gap x ps) a = elements-joined ps a
-
-  fields-joined : (ps : Pieces) → AllPieces PiecesIn ps → AllFields PiecesIn (fieldsJoined ps)
-  unfolding fieldsJoined
-  fields-joined no-pieces a = tt
-  fields-joined (nodePiece place gap (simple x) ps) a = fields-joined ps (a .1)
-  fields-joined (nodePiece place gap (array es) ps) a = fields-joined ps (a .1)
-  fields-joined (nodePiece place gap (object fs) ps) a = join-fields fs (fieldsJoined ps) (a .0) (fields-joined ps (a .1))
-  fields-joined (nodePiece place gap (unresolved b qs) ps) a = fields-joined ps (a .1)
-  fields-joined (substituted gap x ps) a = fields-joined ps a
-
   joined-in : (place : ℕ) (gap : Text) (n : Node) (ps : Pieces) → AllIn (nodePiece place gap n ps)
       → NodeIn (joined n (nodePiece place gap n ps) ps)
   unfolding joined simpleJoined
   joined-in place gap (simple x) no-pieces w = tt
   joined-in place gap (simple x) (nodePiece p g n ps) w = tt
   joined-in place gap (simple x) (substituted g y ps) w = tt
-  joined-in place gap (array es) ps w = elements-joined (nodePiece place gap (array es) ps) (w .0)
-  joined-in place gap (object fs) ps w = fields-joined (nodePiece place gap (object fs) ps) (w .0)
+  joined-in place gap (array es) ps w = elements-joined PiecesIn (nodePiece place gap (array es) ps) (w .0)
+  joined-in place gap (object fs) ps w = fields-joined PiecesIn (nodePiece place gap (object fs) ps) (w .0)
   joined-in place gap (unresolved b qs) ps w = w .0 .0
 
   unlike-in : (k : Kind) (ps : Pieces) (other : ℕ) → PlacesIn In ps → unlike k ps ≡ some other → In other
@@ -310,21 +281,6 @@ module _ (s : List ℕ) where
   abbrev FieldIn : FieldRead → Type 0
   FieldIn m = NodeIn (m .value)
 
-  inside-in : (ks : List Key) (n : Node) → NodeIn n → NodeIn (inside ks n)
-  unfolding inside
-  inside-in [] n w = w
-  inside-in (k ∷ ks) n w = (inside-in ks n w, tt)
-
-  fields-in : (ms : List FieldRead) → Each FieldIn ms → AllFields PiecesIn (fieldsOf ms)
-  unfolding fieldsOf
-  fields-in [] w = tt
-  fields-in (m ∷ ms) w = (w .0, fields-in ms (w .1))
-
-  elements-in : (ns : List Node) → Each NodeIn ns → AllElements PiecesIn (elementsFrom ns)
-  unfolding elementsFrom
-  elements-in [] w = tt
-  elements-in (n ∷ ns) w = (w .0, elements-in ns (w .1))
-
   -- ---- the readers of value, array and object
 
   value-place-in : (at : ℕ) → In at → Keeps s Any (valuePlace s at)
@@ -345,7 +301,7 @@ module _ (s : List ℕ) where
     with-in nesting at items [] h = read-refuses {x = spent} (omega arith)
     with-in nesting at items (k ∷ ks) h =
         then-kept (keeps-kept s Any (items + suc (length ks)) (valuePlace s at) (value-place-in at h)) (λ p place items₁ l z.
-        then-kept (values (nesting + length ks) place items₁ l) (λ n end items₂ m w. gots m (inside-in ks n w)))
+        then-kept (values (nesting + length ks) place items₁ l) (λ n end items₂ m w. gots m (inside-all PiecesIn ks n w)))
 
     judged-field : (nesting at items : ℕ) (es : List Element) (o : Option Refusal) → In at → ((x : Refusal) → o ≡ some x → In (placeOf x))
         → Kept s FieldIn (fieldJudged valueAt s nesting at items es o)
@@ -381,12 +337,12 @@ module _ (s : List ℕ) where
     array-in : (nesting at items : ℕ) → In at → Kept s (AllElements PiecesIn) (arrayAt valueAt s nesting at items)
     unfolding arrayAt
     array-in nesting at items h =
-        then-kept (members-in NodeIn 93 (elementAt valueAt s nesting) (element-in nesting) at items h) (λ ns end items₁ l w. gots l (elements-in ns w))
+        then-kept (members-in NodeIn 93 (elementAt valueAt s nesting) (element-in nesting) at items h) (λ ns end items₁ l w. gots l (elements-all PiecesIn ns w))
 
     object-in : (closing nesting at items : ℕ) → In at → Kept s (AllFields PiecesIn) (objectAt valueAt closing s nesting at items)
     unfolding objectAt
     object-in closing nesting at items h =
-        then-kept (members-in FieldIn closing (fieldAt valueAt s nesting) (field-in nesting) at items h) (λ ms end items₁ l w. gots l (fields-in ms w))
+        then-kept (members-in FieldIn closing (fieldAt valueAt s nesting) (field-in nesting) at items h) (λ ms end items₁ l w. gots l (fields-all PiecesIn ms w))
 
     piece-in : (nesting : ℕ) (start : Start) (at items : ℕ) → In at → startOf s at ≡ some start → Kept s PartIn (pieceAt valueAt s nesting start at items)
     unfolding pieceAt
@@ -411,7 +367,7 @@ module _ (s : List ℕ) where
       then-kept (pieces-in (pieceAt (valueFrom depth s) s nesting) (piece-in (valueFrom depth s) (value-in depth) nesting) (suc (length s)) at at items h)
       (λ ps end items₁ l w. judge-in ps end items₁ l w))
 
-  abbrev RootIn : Root → Type 0
+  abbrev pub RootIn : Root → Type 0
   RootIn r = NodeIn (rootNode r)
 
   root-in : (nesting at items : ℕ) → In at → Kept s RootIn (rootAt s nesting at items)
@@ -432,134 +388,7 @@ module _ (s : List ℕ) where
       then-kept (root-in nesting (afterGap s 0) items (gap-in 0 (omega arith))) (λ r end items₁ l w.
       by-test (Kept s RootIn) (ltb (afterGap s end) (length s)) (λ e. read-refuses (gap-in end l)) (λ e. gots (gap-in end l) w))
 
-  tree-in : (nesting items : ℕ) → Kept s RootIn (readTree s nesting items)
+  pub tree-in : (nesting items : ℕ) → Kept s RootIn (readTree s nesting items)
   unfolding readTree
   tree-in nesting items =
       by-option (Kept s RootIn) (illFormed s) (λ e. read-in nesting items) (λ place e. read-refuses (omega (arith, ill-formed-place s place e)))
-
-  -- ---- numbers change no place
-
-  mutual
-    unfolding numberNode
-
-    number-node : (b : ℕ) (n : Node) → NodeIn n → NodeIn (numberNode b n .0)
-    number-node b (simple x) w = tt
-    number-node b (array es) w = number-elements b es w
-    number-node b (object fs) w = number-fields b fs w
-    number-node b (unresolved c ps) w = (number-places (suc b) ps (w .0), number-pieces (suc b) ps (w .1))
-
-    number-elements : (b : ℕ) (es : Elements) → AllElements PiecesIn es → AllElements PiecesIn (numberElements b es .0)
-    number-elements b no-elements w = tt
-    number-elements b (element n es) w = (number-node b n (w .0), number-elements (numberNode b n .1) es (w .1))
-
-    number-fields : (b : ℕ) (fs : Fields) → AllFields PiecesIn fs → AllFields PiecesIn (numberFields b fs .0)
-    number-fields b no-fields w = tt
-    number-fields b (field k n fs) w = (number-node b n (w .0), number-fields (numberNode b n .1) fs (w .1))
-
-    number-pieces : (b : ℕ) (ps : Pieces) → AllPieces PiecesIn ps → AllPieces PiecesIn (numberPieces b ps .0)
-    number-pieces b no-pieces w = tt
-    number-pieces b (nodePiece place gap n ps) w = (number-node b n (w .0), number-pieces (numberNode b n .1) ps (w .1))
-    number-pieces b (substituted gap x ps) w = number-pieces b ps w
-
-    number-places : (b : ℕ) (ps : Pieces) → PlacesIn In ps → PlacesIn In (numberPieces b ps .0)
-    number-places b no-pieces w = tt
-    number-places b (nodePiece place gap n ps) w = (w .0, number-places (numberNode b n .1) ps (w .1))
-    number-places b (substituted gap x ps) w = (w .0, number-places b ps (w .1))
-
-  number-root : (r : Root) → RootIn r → RootIn (numberRoot r)
-  unfolding numberNode
-  number-root (fields fs) w = number-fields 0 fs w
-  number-root (elements es) w = number-elements 0 es w
-
-  -- ---- the list of unresolved values
-
-  first-in : (ps : Pieces) → PlacesIn In ps → In (firstPlace ps)
-  first-in no-pieces w = omega arith
-  first-in (nodePiece place gap n ps) w = w .0
-  first-in (substituted gap x ps) w = w .0
-
-  mutual
-    unfolding inNode
-
-    listed-node : (openness : Openness) (n : Node) → NodeIn n → Each (Placed In) (inNode openness n)
-    listed-node openness (simple x) w = tt
-    listed-node openness (array es) w = listed-elements es w
-    listed-node openness (object fs) w = listed-fields fs openness no-fields w
-    listed-node openness (unresolved b ps) w = ((first-in ps (w .0), w .0), listed-pieces ps (w .1))
-
-    listed-elements : (es : Elements) → AllElements PiecesIn es → Each (Placed In) (inElements es)
-    listed-elements no-elements w = tt
-    listed-elements (element n es) w =
-        each-append (Placed In) (inNode none n) (inElements es) (listed-node none n (w .0)) (listed-elements es (w .1))
-
-    listed-fields : (fs : Fields) (openness : Openness) (earlier : Fields) → AllFields PiecesIn fs → Each (Placed In) (inFields fs openness earlier)
-    listed-fields no-fields openness earlier w = tt
-    listed-fields (field k n fs) openness earlier w =
-        each-append (Placed In) (inNode (fieldOpenness openness earlier k) n) (inFields fs openness (withField earlier k n))
-        (listed-node (fieldOpenness openness earlier k) n (w .0)) (listed-fields fs openness (withField earlier k n) (w .1))
-
-    listed-pieces : (ps : Pieces) → AllPieces PiecesIn ps → Each (Placed In) (inPieces ps)
-    listed-pieces no-pieces w = tt
-    listed-pieces (nodePiece place gap n ps) w =
-        each-append (Placed In) (inNode none n) (inPieces ps) (listed-node none n (w .0)) (listed-pieces ps (w .1))
-    listed-pieces (substituted gap x ps) w = listed-pieces ps w
-
-  listed-root : (r : Root) → RootIn r → Each (Placed In) (unresolvedIn r)
-  unfolding unresolvedIn
-  listed-root (fields fs) w = listed-fields fs _ no-fields w
-  listed-root (elements es) w = listed-elements es w
-
-  -- ---- the document
-
-  -- an input whose refusal has a place inside, or that has Q
-  data Given {A : Type 0} (Q : A → Type 0) : Input A → Type 0 where
-    gives : {a : A} → Q a → Given Q (valid a)
-    input-refuses : {x : Refusal} → In (placeOf x) → Given Q (refused x)
-
-  abbrev ListIn : Document → Type 0
-  ListIn d = Each (Placed In) (d .unresolved)
-
-  limited-in : (d : Document) → ListIn d → Given ListIn (limited d)
-  unfolding limited
-  limited-in d w =
-      by-option (Given ListIn) (getElem? (d .unresolved) maxUnresolved) (λ e. gives w)
-      (λ u e. input-refuses (each-at (Placed In) (d .unresolved) w maxUnresolved u e .0))
-
-  root-given : {m : Read Root} → Kept s RootIn m → Given ListIn (ofRoot m)
-  unfolding ofRoot
-  root-given (gots {a = r} h w) =
-      let n = numberRoot r in
-      limited-in (record { root = n; unresolved = unresolvedIn n }) (listed-root n (number-root r w))
-  root-given (read-refuses h) = input-refuses h
-
-  document-in : Given ListIn (readDocument s)
-  unfolding readDocument
-  document-in = root-given (tree-in 1 0)
-
-  abbrev SettingIn : Setting → Type 0
-  SettingIn x = ListIn (x .document)
-
-  with-environment : (env : Environment) {m : Input Document} → Given ListIn m → Given SettingIn (withEnvironment env m)
-  with-environment env (gives w) = gives w
-  with-environment env (input-refuses h) = input-refuses h
-
-  inputs-in : (others : Bool) (e : List ℕ) → Given SettingIn (inputs others s e)
-  unfolding inputs
-  inputs-in others e =
-      by-test (Given SettingIn) (others && leb (length s) maxDocument)
-      (λ f. by-option (Given SettingIn) (entriesOf e) (λ g. input-refuses {x = nowhere 1} (omega arith)) (λ es g. with-environment (textOf es) document-in))
-      (λ f. input-refuses {x = nowhere 1} (omega arith))
-
-  -- a refusal of the inputs has its place in the document, or at its end
-  pub inputs-places : (others : Bool) (e : List ℕ) (x : Refusal) → inputs others s e ≡ refused x → placeOf x ≤ length s
-  inputs-places others e x h = go (rw h at (inputs-in others e))
-    where
-      go : Given SettingIn (refused x) → In (placeOf x)
-      go (input-refuses k) = k
-
-  -- the first bytes of the unresolved values stand in it, and so do their pieces
-  pub unresolved-places : (others : Bool) (e : List ℕ) (x : Setting) → inputs others s e ≡ valid x → Each (Placed In) (x .document .unresolved)
-  unresolved-places others e x h = go (rw h at (inputs-in others e))
-    where
-      go : Given SettingIn (valid x) → SettingIn x
-      go (gives w) = w

@@ -20,7 +20,7 @@ use Rattle.theory.specs.Reach.{Each, InRange}
 use Rattle.theory.specs.SettledAnswers.{rootIn}
 use Rattle.theory_order.specs.Walks.{Ended, Kept, finish}
 use Rattle.theory_order.specs.Ready.{Worker, ready}
-use Rattle.theory_order.specs.Turns.{toGo, work, toDo}
+use Rattle.theory_order.specs.Turns.{turnsLeft, work, remaining}
 use Rattle.theory_order.specs.Running.{Running}
 use Rattle.theory_order.specs.Settle.{Settler, keyIn}
 use Rattle.theory_order.specs.Fitting.{Plain, Object}
@@ -77,17 +77,17 @@ module _ (t : Task) where
   abbrev pub workC : Worker Refusal Answer
   workC = work (rulesOf t) (t .budget) (questionsOf t)
 
-  -- Its loop. The invariant is `WorkAt`: `RunningOf stack Sᵢ nᵢ` and `toDoOf stack Sᵢ nᵢ ≡ workC b S n`; the measure is `toGoOf stack Sᵢ`.
+  -- Its loop. The invariant is `WorkAt`: `RunningOf stack Sᵢ nᵢ` and `remainingOf stack Sᵢ nᵢ ≡ workC b S n`; the measure is `turnsLeftOf stack Sᵢ`.
   -- Before it `work-begins` or `work-barred`; each turn ends by `turn-lays`, `turn-full`, `turn-refuses`, `turn-begins` or `turn-barred`;
   -- behind it `work-done`.
-  abbrev pub toDoOf : List ℕ → Trail Answer → ℕ → Ended Refusal Answer
-  toDoOf = toDo (rulesOf t) (t .budget) (questionsOf t)
+  abbrev pub remainingOf : List ℕ → Trail Answer → ℕ → Ended Refusal Answer
+  remainingOf = remaining (rulesOf t) (t .budget) (questionsOf t)
 
   abbrev pub RunningOf : List ℕ → Trail Answer → ℕ → Type 0
   RunningOf = Running (rulesOf t) (t .budget) (questionsOf t)
 
-  abbrev pub toGoOf : List ℕ → Trail Answer → ℕ
-  toGoOf = toGo (questionsOf t)
+  abbrev pub turnsLeftOf : List ℕ → Trail Answer → ℕ
+  turnsLeftOf = turnsLeft (questionsOf t)
 
   -- `begin(q)` at a stack: 10, 12, or it begins (`bar-circular`, `bar-excess`, `bar-free`). The column of marks holds `begun S stack`: a
   -- begin sets one (`begun-push` of module Running), a lay none (`begun-lay`). As `n ≤ budget`, 12 is `n = budget`. The stack never holds

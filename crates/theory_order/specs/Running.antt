@@ -13,7 +13,7 @@ use Rattle.answers.specs.Resolve.{Rules, bar, Laid}
 use Rattle.answers.specs.Theory.Sound.{clash, bar-none, lookup-other, mem-new, mem-cases, mem-more}
 use Rattle.answers.specs.Theory.Fuel.{has, begun, left-begin, left-lay}
 use Rattle.theory_order.specs.Walks.{Kept}
-use Rattle.theory_order.specs.Turns.{Stacked, toGo}
+use Rattle.theory_order.specs.Turns.{Stacked, turnsLeft}
 
 module _ {F R : Type 0} (ρ : Rules F R) (budget N : ℕ) where
   pub record Running (stack : List ℕ) (S : Trail R) (n : ℕ) : Type 0 where
@@ -41,7 +41,7 @@ module _ {F R : Type 0} (ρ : Rules F R) (budget N : ℕ) where
   module _ (stack : List ℕ) (S : Trail R) (n : ℕ) where
     -- a missing question begins
     pub running-begin : Running stack S n → (q : ℕ) → lookup S q ≡ none → q < N → bar ρ budget stack n q ≡ none
-        → Running (q ∷ stack) S (suc n) × (toGo N (q ∷ stack) S < toGo N stack S)
+        → Running (q ∷ stack) S (suc n) × (turnsLeft N (q ∷ stack) S < turnsLeft N stack S)
     running-begin a q new l e =
         let (out, room) = bar-none ρ budget stack n q e in (
           record {
@@ -57,7 +57,7 @@ module _ {F R : Type 0} (ρ : Rules F R) (budget N : ℕ) where
 
     -- the newest question is answered, and its entry fits
     pub running-lay : (b : ℕ) (r : R) → Running (b ∷ stack) S n → run (lookup S) (ρ .rule b) ≡ value r
-        → ρ .fits ((b, r) ∷ S) ≡ true → Running stack ((b, r) ∷ S) n × (toGo N stack ((b, r) ∷ S) < toGo N (b ∷ stack) S)
+        → ρ .fits ((b, r) ∷ S) ≡ true → Running stack ((b, r) ∷ S) n × (turnsLeft N stack ((b, r) ∷ S) < turnsLeft N (b ∷ stack) S)
     running-lay b r a e fits = (
       record {
         stacked = a .stacked .2;

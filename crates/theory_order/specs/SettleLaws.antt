@@ -24,13 +24,13 @@ use Rattle.theory_order.specs.Resolving.{work-keeps, ready-again, ready-
 -- ---- the loop of `ready(os, k)` from the trail S and the count n, where it has come to a trail and a count
 
 pub record ReadyAt (t : Task) (os : List Layer) (k : Text) (S : Trail Answer) (n : ℕ) (Sᵢ : Trail Answer) (nᵢ : ℕ) : Type 0 where
-  pub to-do : readyC t os k Sᵢ nᵢ ≡ readyC t os k S n
+  pub remains : readyC t os k Sᵢ nᵢ ≡ readyC t os k S n
   pub kept : KeptOf t Sᵢ nᵢ
   pub grows : Within S Sᵢ
 
 module _ (t : Task) (os : List Layer) (k : Text) (S : Trail Answer) (n : ℕ) where
   pub ready-starts : KeptOf t S n → ReadyAt t os k S n S n
-  ready-starts kept = record { to-do = refl; kept = kept; grows = λ q r e. e }
+  ready-starts kept = record { remains = refl; kept = kept; grows = λ q r e. e }
 
   module _ (p : Prepared (t .setting .document)) (f : Each (NumberedObject (questionsOf t)) os) (Sᵢ : Trail Answer) (nᵢ : ℕ)
       (a : ReadyAt t os k S n Sᵢ nᵢ) where
@@ -40,7 +40,7 @@ module _ (t : Task) (os : List Layer) (k : Text) (S : Trail Answer) (n : ℕ) wh
     ready-done c e =
         let done : readyC t os k Sᵢ nᵢ ≡ answer c Sᵢ nᵢ = ready-again t p os f k Sᵢ nᵢ (a .kept) ∙ rw e in
         let (kept, grows, gathers, numbered) = of-answer (rw done at (ready-keeps t p os f k Sᵢ nᵢ (a .kept))) in
-        (sym (a .to-do) ∙ done, numbered)
+        (sym (a .remains) ∙ done, numbered)
 
     -- b's answer is missing, and `work` goes on or refuses
     module _ (b : ℕ) (misses : keyIn os k (lookup Sᵢ) ≡ missing b) where
@@ -50,10 +50,10 @@ module _ (t : Task) (os : List Layer) (k : Text) (S : Trail Answer) (n : ℕ) wh
           let (new, l) = ready-missing t p os f k Sᵢ nᵢ (a .kept) b misses in
           let (kept, grows, fewer) = of-answer (rw e at (work-keeps t p b Sᵢ nᵢ l new (a .kept))) in
           let again : readyC t os k Sᵢ nᵢ ≡ readyC t os k S′ n′ = ready-again t p os f k Sᵢ nᵢ (a .kept) ∙ rw (misses, e) in
-          (record { to-do = sym again ∙ a .to-do; kept = kept; grows = λ q r h. grows q r (a .grows q r h) }, fewer)
+          (record { remains = sym again ∙ a .remains; kept = kept; grows = λ q r h. grows q r (a .grows q r h) }, fewer)
 
       pub ready-refused : (y : Refusal) → workC t b Sᵢ nᵢ ≡ refused y → readyC t os k S n ≡ refused y
-      ready-refused y e = sym (a .to-do) ∙ ready-again t p os f k Sᵢ nᵢ (a .kept) ∙ rw (misses, e)
+      ready-refused y e = sym (a .remains) ∙ ready-again t p os f k Sᵢ nᵢ (a .kept) ∙ rw (misses, e)
 
 -- an object is no unresolved value
 pub object-layer : (N : ℕ) (o : Layer) → NumberedObject N o → NumberedLayer N o

@@ -1,5 +1,5 @@
 -- Working one question out by turns. The questions that have begun are a stack, the newest first; a turn runs the rules of the newest
--- from their start, and either its answer is laid or a missing question begins. What is still to be done is `toDo`; each turn leaves it
+-- from their start, and either its answer is laid or a missing question begins. What is still to be done is `remaining`; each turn leaves it
 -- as it is.
 use mathlib.Core.Path.{_≡_, refl, sym, ap, _∙_}
 use Prim.Native.Nat.{ℕ, zero, suc, pred, _+_, _*_, _≤_, _<_}
@@ -42,8 +42,8 @@ stacked-length N stack s = omega (arith, go stack s)
     go (q ∷ qs) t = omega (arith, idle-drop N qs q (t .0) (t .1), go qs (t .2))
 
 -- The measure: how many turns may still come. Two, a begin and a lay, for each question that has not begun; a lay for each on the stack.
-abbrev pub toGo : {R : Type 0} → ℕ → List ℕ → Trail R → ℕ
-toGo N stack S = 2 * left N S stack + length stack
+abbrev pub turnsLeft : {R : Type 0} → ℕ → List ℕ → Trail R → ℕ
+turnsLeft N stack S = 2 * left N S stack + length stack
 
 -- the fuel that the recursion of `worked` has left there, and that it is enough
 abbrev fuel : ℕ → List ℕ → ℕ
@@ -91,64 +91,64 @@ module _ {F R : Type 0} (ρ : Rules F R) (budget N : ℕ) where
   abbrev needed : List ℕ → Handler F R
   needed stack = worked ρ budget (fuel N stack) stack
 
-  abbrev pub toDo : List ℕ → Trail R → ℕ → Ended F R
-  toDo [] S n = answer tt S n
-  toDo (q ∷ stack) S n = after (lay ρ q (walk (needed (q ∷ stack)) S n (ρ .rule q))) (λ _ S′ n′. toDo stack S′ n′)
+  abbrev pub remaining : List ℕ → Trail R → ℕ → Ended F R
+  remaining [] S n = answer tt S n
+  remaining (q ∷ stack) S n = after (lay ρ q (walk (needed (q ∷ stack)) S n (ρ .rule q))) (λ _ S′ n′. remaining stack S′ n′)
 
   -- a missing question is barred or begins
-  toDo-begin : (stack : List ℕ) → Stacked N stack → (S : Trail R) (n q : ℕ) → lookup S q ≡ none → q < N
-      → after (needed stack q S n) (λ _ S′ n′. toDo stack S′ n′) ≡ begin (bar ρ budget stack n q) n (toDo (q ∷ stack) S)
-  toDo-begin stack s S n q new l = go (bar ρ budget stack n q) refl (fuel N stack) refl
+  remaining-begin : (stack : List ℕ) → Stacked N stack → (S : Trail R) (n q : ℕ) → lookup S q ≡ none → q < N
+      → after (needed stack q S n) (λ _ S′ n′. remaining stack S′ n′) ≡ begin (bar ρ budget stack n q) n (remaining (q ∷ stack) S)
+  remaining-begin stack s S n q new l = go (bar ρ budget stack n q) refl (fuel N stack) refl
     where
       go : (x : Option F) → bar ρ budget stack n q ≡ x → (k : ℕ) → fuel N stack ≡ k
-          → after (worked ρ budget k stack q S n) (λ _ S′ n′. toDo stack S′ n′) ≡ begin x n (toDo (q ∷ stack) S)
+          → after (worked ρ budget k stack q S n) (λ _ S′ n′. remaining stack S′ n′) ≡ begin x n (remaining (q ∷ stack) S)
       go (some x) e zero i = rw (new, e)
       go (some x) e (suc k) i = rw (new, e)
       go none e zero i = absurd (omega (arith, fuel-enough N stack s, idle-drop N stack q (bar-none ρ budget stack n q e .0) l))
       go none e (suc k) i = rw (new, e, i)
 
   -- before the first turn
-  pub toDo-start : (b : ℕ) (S : Trail R) (n : ℕ) → b < N → lookup S b ≡ none
-      → begin (bar ρ budget [] n b) n (toDo (b ∷ []) S) ≡ forget (worked ρ budget N [] b S n)
-  toDo-start b S n l new = sym (toDo-begin [] tt S n b new l) ∙ after-end (worked ρ budget N [] b S n)
+  pub remaining-start : (b : ℕ) (S : Trail R) (n : ℕ) → b < N → lookup S b ≡ none
+      → begin (bar ρ budget [] n b) n (remaining (b ∷ []) S) ≡ forget (worked ρ budget N [] b S n)
+  remaining-start b S n l new = sym (remaining-begin [] tt S n b new l) ∙ after-end (worked ρ budget N [] b S n)
 
   module _ (closed : Closed ρ N) where
     -- one turn: the newest question is answered and laid, or one that it misses is barred or begins
-    pub toDo-turn : (b : ℕ) (bs : List ℕ) → Stacked N (b ∷ bs) → (S : Trail R) (n : ℕ)
-        → toDo (b ∷ bs) S n
-        ≡ proceed (run (lookup S) (ρ .rule b)) (λ r. after (lay ρ b (answer r S n)) (λ _ S′ n′. toDo bs S′ n′))
-        (λ q. begin (bar ρ budget (b ∷ bs) n q) n (toDo (q ∷ b ∷ bs) S))
-    toDo-turn b bs s S n =
+    pub remaining-turn : (b : ℕ) (bs : List ℕ) → Stacked N (b ∷ bs) → (S : Trail R) (n : ℕ)
+        → remaining (b ∷ bs) S n
+        ≡ proceed (run (lookup S) (ρ .rule b)) (λ r. after (lay ρ b (answer r S n)) (λ _ S′ n′. remaining bs S′ n′))
+        (λ q. begin (bar ρ budget (b ∷ bs) n q) n (remaining (q ∷ b ∷ bs) S))
+    remaining-turn b bs s S n =
         let h = needed (b ∷ bs) in
-        let on : R → Trail R → ℕ → Ended F R = λ _ S′ n′. toDo bs S′ n′ in
+        let on : R → Trail R → ℕ → Ended F R = λ _ S′ n′. remaining bs S′ n′ in
         ap (λ z. after (lay ρ b z) on) (walk-restarts (worked-serves ρ budget (fuel N (b ∷ bs)) (b ∷ bs)) (ρ .rule b) S n)
         ∙ lay-proceed ρ b on (run (lookup S) (ρ .rule b)) (λ a. answer a S n) (λ q. after (h q S n) (λ r S′ n′. walk h S′ n′ (ρ .rule b)))
         ∙ proceed-cong (run (lookup S) (ρ .rule b)) (λ r e. refl) (λ q e.
         let (new, l) = run-missing N S (ρ .rule b) (closed b (s .1)) q e in
-        lay-after ρ b on (h q S n) (λ r S′ n′. walk h S′ n′ (ρ .rule b)) ∙ toDo-begin (b ∷ bs) s S n q new l)
+        lay-after ρ b on (h q S n) (λ r S′ n′. walk h S′ n′ (ρ .rule b)) ∙ remaining-begin (b ∷ bs) s S n q new l)
 
     -- ---- turns enough do it
 
-    turns-do : (m : ℕ) (stack : List ℕ) (S : Trail R) (n : ℕ) → Stacked N stack → toGo N stack S < m → turns m stack S n ≡ toDo stack S n
+    turns-do : (m : ℕ) (stack : List ℕ) (S : Trail R) (n : ℕ) → Stacked N stack → turnsLeft N stack S < m → turns m stack S n ≡ remaining stack S n
     turns-do zero stack S n s i = absurd (omega arith)
     turns-do (suc m) [] S n s i = refl
     turns-do (suc m) (b ∷ bs) S n s i =
         proceed-cong (run (lookup S) (ρ .rule b))
-        (λ r e. lay-cong ρ b r S n (λ _ S′ n′. turns m bs S′ n′) (λ _ S′ n′. toDo bs S′ n′)
+        (λ r e. lay-cong ρ b r S n (λ _ S′ n′. turns m bs S′ n′) (λ _ S′ n′. remaining bs S′ n′)
         (turns-do m bs ((b, r) ∷ S) n (s .2) (omega (arith, left-lay N b S bs r))))
-        (λ q e. begin-cong (bar ρ budget (b ∷ bs) n q) n (turns m (q ∷ b ∷ bs) S) (toDo (q ∷ b ∷ bs) S) (λ free.
+        (λ q e. begin-cong (bar ρ budget (b ∷ bs) n q) n (turns m (q ∷ b ∷ bs) S) (remaining (q ∷ b ∷ bs) S) (λ free.
         let (new, l) = run-missing N S (ρ .rule b) (closed b (s .1)) q e in
         let out : mem q (b ∷ bs) ≡ false = bar-none ρ budget (b ∷ bs) n q free .0 in
         turns-do m (q ∷ b ∷ bs) S (suc n) (out, l, s) (omega (arith, left-begin N q S (b ∷ bs) out new l))))
-        ∙ sym (toDo-turn b bs s S n)
+        ∙ sym (remaining-turn b bs s S n)
 
     -- so the worker does on missing questions what the recursion does
     pub work-is : (b : ℕ) (S : Trail R) (n : ℕ) → b < N → lookup S b ≡ none → work b S n ≡ forget (worked ρ budget N [] b S n)
     work-is b S n l new =
-        begin-cong (bar ρ budget [] n b) n (turns (2 * N) (b ∷ []) S) (toDo (b ∷ []) S) (λ free.
+        begin-cong (bar ρ budget [] n b) n (turns (2 * N) (b ∷ []) S) (remaining (b ∷ []) S) (λ free.
         let out : mem b [] ≡ false = refl in
         turns-do (2 * N) (b ∷ []) S (suc n) (refl, l, tt) (omega (arith, left-begin N b S [] out new l, free-le (begun S []) N)))
-        ∙ toDo-start b S n l new
+        ∙ remaining-start b S n l new
 
     abbrev pub by-turns : Working F R (Kept ρ budget)
     by-turns = record {

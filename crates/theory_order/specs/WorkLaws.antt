@@ -20,7 +20,7 @@ use Rattle.theory.specs.Numbering.{Prepared}
 use Rattle.theory.specs.Resolving.{rule-below}
 use Rattle.theory_order.specs.Ready.{unanswered}
 use Rattle.theory_order.specs.Running.{running-start, running-begin, running-lay, begun-busy}
-use Rattle.theory_order.specs.Contracts.{Task, questionsOf, rulesOf, KeptOf, workC, toDoOf, RunningOf, toGoOf, barOf}
+use Rattle.theory_order.specs.Contracts.{Task, questionsOf, rulesOf, KeptOf, workC, remainingOf, RunningOf, turnsLeftOf, barOf}
 use Rattle.theory_order.specs.Resolving.{work-start, work-turn, work-keeps}
 
 -- ---- `begin`: a missing question by its mark and the count
@@ -40,7 +40,7 @@ module _ (t : Task) (S : Trail Answer) (stack : List ℕ) (n q : ℕ) (new : loo
 -- ---- the loop of `work(b)` from the trail S and the count n, where it has come to a stack, a trail and a count
 
 pub record WorkAt (t : Task) (b : ℕ) (S : Trail Answer) (n : ℕ) (stack : List ℕ) (Sᵢ : Trail Answer) (nᵢ : ℕ) : Type 0 where
-  pub to-do : toDoOf t stack Sᵢ nᵢ ≡ workC t b S n
+  pub remains : remainingOf t stack Sᵢ nᵢ ≡ workC t b S n
   pub running : RunningOf t stack Sᵢ nᵢ
 
 module _ (t : Task) (p : Prepared (t .setting .document)) (b : ℕ) (S : Trail Answer) (n : ℕ) where
@@ -49,7 +49,7 @@ module _ (t : Task) (p : Prepared (t .setting .document)) (b : ℕ) (S : Trail A
   module _ (l : b < questionsOf t) (new : lookup S b ≡ none) (kept : KeptOf t S n) where
     pub work-begins : barOf t [] n b ≡ none → WorkAt t b S n (b ∷ []) S (suc n)
     work-begins free = record {
-      to-do = sym (work-start t p b S n l new ∙ rw free);
+      remains = sym (work-start t p b S n l new ∙ rw free);
       running = running-begin (rulesOf t) (t .budget) (questionsOf t) [] S n
           (running-start (rulesOf t) (t .budget) (questionsOf t) S n kept) b new l free .0;
     }
@@ -61,28 +61,28 @@ module _ (t : Task) (p : Prepared (t .setting .document)) (b : ℕ) (S : Trail A
         → (workC t b S n ≡ answer tt S′ n′) × KeptOf t S′ n′ × Within S S′
         × (unanswered (questionsOf t) S′ < unanswered (questionsOf t) S)
     work-done S′ n′ a =
-        let (kept′, grows, fewer) = of-answer (rw (sym (a .to-do)) at (work-keeps t p b S n l new kept)) in
-        (sym (a .to-do), kept′, grows, fewer)
+        let (kept′, grows, fewer) = of-answer (rw (sym (a .remains)) at (work-keeps t p b S n l new kept)) in
+        (sym (a .remains), kept′, grows, fewer)
 
   -- ---- one turn of the newest question, q
 
   module _ (q : ℕ) (qs : List ℕ) (Sᵢ : Trail Answer) (nᵢ : ℕ) (a : WorkAt t b S n (q ∷ qs) Sᵢ nᵢ) where
     -- its rules refuse
     pub turn-refuses : (y : Refusal) → run (lookup Sᵢ) (ruleOf (t .setting) q) ≡ Out.refused y → workC t b S n ≡ refused y
-    turn-refuses y e = sym (a .to-do) ∙ work-turn t p q qs (a .running .stacked) Sᵢ nᵢ ∙ rw e
+    turn-refuses y e = sym (a .remains) ∙ work-turn t p q qs (a .running .stacked) Sᵢ nᵢ ∙ rw e
 
     -- it is answered: the entry fits, or not
     module _ (r : Answer) (runs : run (lookup Sᵢ) (ruleOf (t .setting) q) ≡ value r) where
       pub turn-lays : trailFits (t .trailRoom) (t .textRoom) ((q, r) ∷ Sᵢ) ≡ true
-          → WorkAt t b S n qs ((q, r) ∷ Sᵢ) nᵢ × (toGoOf t qs ((q, r) ∷ Sᵢ) < toGoOf t (q ∷ qs) Sᵢ)
+          → WorkAt t b S n qs ((q, r) ∷ Sᵢ) nᵢ × (turnsLeftOf t qs ((q, r) ∷ Sᵢ) < turnsLeftOf t (q ∷ qs) Sᵢ)
       unfolding orderOf
       turn-lays fits =
           let (running, less) = running-lay (rulesOf t) (t .budget) (questionsOf t) qs Sᵢ nᵢ q r (a .running) runs fits in
-          (record { to-do = sym (work-turn t p q qs (a .running .stacked) Sᵢ nᵢ ∙ rw (runs, fits)) ∙ a .to-do; running = running }, less)
+          (record { remains = sym (work-turn t p q qs (a .running .stacked) Sᵢ nᵢ ∙ rw (runs, fits)) ∙ a .remains; running = running }, less)
 
       pub turn-full : trailFits (t .trailRoom) (t .textRoom) ((q, r) ∷ Sᵢ) ≡ false → workC t b S n ≡ refused (nowhere 14)
       unfolding orderOf
-      turn-full full = sym (a .to-do) ∙ work-turn t p q qs (a .running .stacked) Sᵢ nᵢ ∙ rw (runs, full)
+      turn-full full = sym (a .remains) ∙ work-turn t p q qs (a .running .stacked) Sᵢ nᵢ ∙ rw (runs, full)
 
     -- it misses question j, which begins or is barred
     module _ (j : ℕ) (misses : run (lookup Sᵢ) (ruleOf (t .setting) q) ≡ missing j) where
@@ -90,11 +90,11 @@ module _ (t : Task) (p : Prepared (t .setting .document)) (b : ℕ) (S : Trail A
       turn-missing = run-missing (questionsOf t) Sᵢ (ruleOf (t .setting) q) (rule-below (t .setting) p q) j misses
 
       pub turn-begins : barOf t (q ∷ qs) nᵢ j ≡ none
-          → WorkAt t b S n (j ∷ q ∷ qs) Sᵢ (suc nᵢ) × (toGoOf t (j ∷ q ∷ qs) Sᵢ < toGoOf t (q ∷ qs) Sᵢ)
+          → WorkAt t b S n (j ∷ q ∷ qs) Sᵢ (suc nᵢ) × (turnsLeftOf t (j ∷ q ∷ qs) Sᵢ < turnsLeftOf t (q ∷ qs) Sᵢ)
       turn-begins free =
           let (new, l) = turn-missing in
           let (running, less) = running-begin (rulesOf t) (t .budget) (questionsOf t) (q ∷ qs) Sᵢ nᵢ (a .running) j new l free in
-          (record { to-do = sym (work-turn t p q qs (a .running .stacked) Sᵢ nᵢ ∙ rw (misses, free)) ∙ a .to-do; running = running }, less)
+          (record { remains = sym (work-turn t p q qs (a .running .stacked) Sᵢ nᵢ ∙ rw (misses, free)) ∙ a .remains; running = running }, less)
 
       pub turn-barred : (y : Refusal) → barOf t (q ∷ qs) nᵢ j ≡ some y → workC t b S n ≡ refused y
-      turn-barred y e = sym (a .to-do) ∙ work-turn t p q qs (a .running .stacked) Sᵢ nᵢ ∙ rw (misses, e)
+      turn-barred y e = sym (a .remains) ∙ work-turn t p q qs (a .running .stacked) Sᵢ nᵢ ∙ rw (misses, e)

@@ -33,7 +33,7 @@ use Rattle.text_scan.proofs.gap_at.Reads as gap-at-reads
 use Rattle.read_limits.proofs.piece_start.Reads as piece-start-reads
 use Rattle.read_pieces.proofs.finish_value.Reads as finish-value-reads
 use Rattle.read_limits.proofs.excess_number.Reads as excess-number-reads
-use Rattle.read_steps.proofs.reference_piece.Reads as reference-piece-reads
+use Rattle.read_references.proofs.reference_piece.Reads as reference-piece-reads
 use Rattle.read_steps.proofs.finish_element.Reads as finish-element-reads
 use Rattle.read_steps.proofs.finish_field.Reads as finish-field-reads
 use Rattle.read_pieces.proofs.container_piece.Reads as container-piece-reads

@@ -1,0 +1,19 @@
+-- laws: links
+use Rattle.read_references.proofs.Parts.{links}
+use borrow.Author.Needs.{needs}
+use Rattle.read_references.proofs.reference_piece.Statement.{statement}
+use Rattle.read_references.proofs.reference_piece.Tie as tie
+
+pub reference-piece-spec : {M : Type 1} → statement M
+reference-piece-spec =
+    tie.close
+    (tie.spec
+    (λ c κs. search needs)
+    (λ c. search needs)
+    (λ c. search needs)
+    (λ c. search needs)
+    (λ c κs. search needs)
+    (λ c. search needs)
+    (λ c. search links)
+    (λ c. search needs)
+    (λ c. search links))
