@@ -18,6 +18,12 @@
  *         ...
  *     }
  *
+ * A value that is a length with its unit, as "2.6 mm", is read by dz_length():
+ *
+ *     uint64_t length = dz_length(value, value_len, text, text_len);
+ *     if (dz_length_number(length) == DZ_OK)
+ *         show(dz_length_micrometres(length));
+ *
  *
  * What holds for every function here
  *
@@ -50,6 +56,7 @@ extern "C" {
 #define DZ_PATH_TEXT_MAX 1024u   /* bytes of a path text */
 #define DZ_PATH_ELEMENTS_MAX 16u /* names in a path */
 #define DZ_NESTING_MAX 32u       /* arrays and objects in one another; the root counts */
+#define DZ_MICROMETRES_MAX 1000000u /* a length, in micrometres */
 
 /*
  * Refusal numbers
@@ -68,7 +75,12 @@ enum dz_number {
     DZ_BAD_PATH = 7,             /* an empty path, or an empty name without quotes */
     DZ_OVER_LIMIT = 8,           /* more of something than the limit */
     DZ_NOT_A_TABLE = 15,         /* the records are not one whole table */
-    DZ_NOT_FOUND = 16            /* the path names nothing */
+    DZ_NOT_FOUND = 16,           /* the path names nothing */
+    DZ_MALFORMED_LENGTH = 20,    /* no number with its unit */
+    DZ_BARE_NUMBER = 21,         /* a number without its unit */
+    DZ_MINUS_SIGN = 22,          /* a length with a minus sign */
+    DZ_NOT_WHOLE_MICROMETRES = 23, /* a length that is not whole micrometres */
+    DZ_TOO_LONG = 24             /* a length over DZ_MICROMETRES_MAX */
 };
 
 /*
@@ -220,6 +232,62 @@ static inline size_t dz_look_up_length(uint64_t answer)
 static inline size_t dz_look_up_place(uint64_t answer)
 {
     return dz_look_up_found(answer) ? 0 : (size_t)(answer >> 6 & 0xffff);
+}
+
+/*
+ * dz_length - read a looked-up value as a length, in whole micrometres
+ *
+ *   table, table_len   the value's records, as dz_look_up() found them: one whole
+ *                      table, at most DZ_PART_MAX bytes
+ *   text, text_len     the text part that belongs to it, at most DZ_PART_MAX
+ *                      bytes
+ *
+ * Both are only read; see the top of this file for lengths of 0, overlap and
+ * threads.
+ *
+ * A length is a string: a decimal number in JSON's form without exponent, then
+ * whitespace (bytes 09 to 0D, 1C to 1F, 20) or none, then mm, um or in, and
+ * nothing before or after. 1 in is 25,400 micrometres, so `2.6 mm` is 2,600 and
+ * `0.1 in` is 2,540. It is exact, for any number of digits; nothing is rounded.
+ *
+ * Returns the micrometres, or a refusal. Take it apart with the functions below;
+ * its bits are
+ *
+ *     bits         a length         refused
+ *     0 to 5       0                number
+ *     6 to 25      micrometres      0
+ *     26 to 63     0                0
+ *
+ * Refusals, in the order in which they are judged, all at place 0:
+ *
+ *      1 DZ_BAD_INPUT               The table or the text is over DZ_PART_MAX
+ *                                   bytes.
+ *     15 DZ_NOT_A_TABLE             The table is not one whole table over the
+ *                                   text.
+ *     20 DZ_MALFORMED_LENGTH        The value is no number and no string, or its
+ *                                   text is no length: an exponent, another
+ *                                   unit, a unit in a number, whitespace around
+ *                                   it, bytes that are not UTF-8, or anything
+ *                                   else.
+ *     21 DZ_BARE_NUMBER             A number without its unit, in a number or a
+ *                                   string.
+ *     22 DZ_MINUS_SIGN              The number has a minus sign, -0 too.
+ *     23 DZ_NOT_WHOLE_MICROMETRES   As `0.0001 mm`.
+ *     24 DZ_TOO_LONG                Over DZ_MICROMETRES_MAX micrometres.
+ */
+uint64_t dz_length(const uint8_t *table, size_t table_len,
+                   const uint8_t *text, size_t text_len);
+
+/* The refusal number of an answer of dz_length(), or DZ_OK if it is a length. */
+static inline int dz_length_number(uint64_t answer)
+{
+    return (int)(answer & 0x3f);
+}
+
+/* The micrometres of a length; 0 for a refusal. */
+static inline uint32_t dz_length_micrometres(uint64_t answer)
+{
+    return (uint32_t)(answer >> 6 & 0xfffff);
 }
 
 #ifdef __cplusplus

@@ -15,6 +15,8 @@ pub const I: u32 = b'i' as u32;
 
 pub const L: u32 = b'l' as u32;
 
+pub const M: u32 = b'm' as u32;
+
 pub const N: u32 = b'n' as u32;
 
 pub const R: u32 = b'r' as u32;

@@ -34,3 +34,13 @@ pub const NOT_A_TABLE: u8 = 15;
 pub const NOT_FOUND: u8 = 16;
 /// A sheet that is not accepted.
 pub const NOT_ACCEPTED: u8 = 17;
+/// What is no length: no decimal number with its unit.
+pub const MALFORMED_LENGTH: u8 = 20;
+/// A number without its unit.
+pub const BARE_NUMBER: u8 = 21;
+/// A length with a minus sign.
+pub const MINUS_SIGN: u8 = 22;
+/// A length that is not whole micrometres.
+pub const NOT_WHOLE_MICROMETRES: u8 = 23;
+/// A length over 1,000,000 micrometres.
+pub const TOO_LONG: u8 = 24;

@@ -28,6 +28,9 @@ use Rattle.text_paths.specs.declared.PathRead.{PathRead}
 use Rattle.sheet_paths.specs.Contracts.{PartNamedIs}
 use Rattle.job_answers.specs.Answers.{jobOf, packed, Packable, partOf}
 use Rattle.job_answers.specs.declared.Found.{Found}
+use Rattle.text_micrometres.specs.Contracts.{measuredOf}
+use Rattle.text_micrometres.specs.declared.Measured.{Measured}
+use Rattle.job_length.specs.Packed.{packedLength}
 use Rattle.dzintrulo.specs.LookUpJob.{short-table, answer-packable}
 
 -- ---- the value that a path text names
@@ -161,3 +164,9 @@ pub ruleset names = (path-named, path-refused)
 pub ruleset jobs = (long-table, long-text, long-path, not-whole, not-utf8, looked)
 
 pub ruleset handed = (part-handed, none-handed)
+
+-- ---- a length's packing
+
+pub packed-length : (table text : List ℕ) (m : Measured) {v : ℕ} → measuredOf m ≡ J.lengthJob table text → v ≡ packedLength (measuredOf m)
+    → v ≡ packedLength (J.lengthJob table text)
+packed-length table text m k e = e ∙ ap packedLength k

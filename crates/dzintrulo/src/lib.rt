@@ -1,5 +1,5 @@
 // The jobs on lent byte slices, exported to C.
-// Computes: Jobs (lookUpJob)
+// Computes: Jobs (lookUpJob, lengthJob)
 use codes::limits;
 use codes::refusals;
 use job_answers::Found;
@@ -12,8 +12,9 @@ ghost use Prim.Native.Nat.{_≤_};
 ghost use lib.ListN.{length};
 ghost use Rattle.rules.specs.Sizes.{maxRoom, maxPathText};
 ghost use Rattle.rules.specs.Paths.{pathText};
-ghost use Rattle.rules.specs.Jobs.{lookedUp, lookUpJob};
+ghost use Rattle.rules.specs.Jobs.{lookedUp, lookUpJob, lengthJob};
 ghost use Rattle.job_answers.specs.Answers.{jobOf, partOf, packed};
+ghost use Rattle.job_length.specs.Packed.{packedLength};
 
 // What the path of a path text names. It is read into buffers of this function's own.
 fn look_up_path(table: &[u8], text: &[u8], path: &[u8]) -> Found
@@ -88,4 +89,12 @@ pub extern "C" fn dz_look_up(table: &[u8], text: &[u8], path: &[u8]) -> u64
     ensures { λ r. ⌜ r ≡ packed (lookUpJob (now (table .entry)) (now (text .entry)) (now (path .entry))) ⌝ }
 {
     job_answers::pack(look_up_answer(table, text, path))
+}
+
+/// A looked-up value's length for C.
+#[no_mangle]
+pub extern "C" fn dz_length(table: &[u8], text: &[u8]) -> u64
+    ensures { λ r. ⌜ r ≡ packedLength (lengthJob (now (table .entry)) (now (text .entry))) ⌝ }
+{
+    job_length::pack_length(job_length::length(table, text))
 }

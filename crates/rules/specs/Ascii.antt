@@ -120,6 +120,9 @@ i = 105
 abbrev pub l : ℕ
 l = 108
 
+abbrev pub m : ℕ
+m = 109
+
 abbrev pub n : ℕ
 n = 110
 

@@ -1,14 +1,15 @@
--- Document 01, "The three jobs".
+-- Document 01, "The three jobs"; and document 02's lengths.
 use Prim.Native.Nat.{ℕ, _-_, min}
 use mathlib.Core.List.{List, [], _++_}
 use mathlib.Core.Bool.{true, false, _&&_}
 use mathlib.Core.Option.{Option, none, some}
-use lib.Dec.{leb}
+use lib.Dec.{leb, eqb}
 use lib.ListN.{length, replicate}
 use Rattle.answers.specs.Ask.{Trail}
 use Rattle.answers.specs.Resolve.{Rules, Res, answer, refused, dry, resolve}
 use Rattle.rules.specs.Sizes.{maxBudget, maxPathText, maxNesting, maxRoom}
-use Rattle.rules.specs.Bytes.{Text}
+use Rattle.rules.specs.Bytes.{Text, byteAt, within}
+use Rattle.rules.specs.Kinds as kinds
 use Rattle.rules.specs.Refusals.{Refusal, placed, nowhere, spent, numberOf, placeOf, Scan, ok, refused}
 use Rattle.rules.specs.Utf8.{illFormed}
 use Rattle.rules.specs.Paths.{pathText}
@@ -17,7 +18,8 @@ use Rattle.rules.specs.Unresolved.{rootValue}
 use Rattle.rules.specs.Documents.{Setting, Input, valid, refused, inputs, ruleOf, countOf, firstByte}
 use Rattle.rules.specs.Sheet.{records, texts, trailTextSize, trailRecords, trailTexts, trailFits, tableFits}
 use Rattle.rules.specs.Checking.{accepted}
-use Rattle.rules.specs.LookUp.{isWhole, afterValue, valueNamed}
+use Rattle.rules.specs.LookUp.{isWhole, afterValue, textAt, valueNamed}
+use Rattle.rules.specs.Micrometres.{Measured, noLength, lengthOf}
 
 -- ---- "Resolve: document, environment and budget in; trail, table, text and a count out."
 
@@ -164,4 +166,24 @@ lookUpJob table text path =
         | false ↦ notFound (nowhere 15)
         | true ↦ elim (illFormed path) [ some place ↦ notFound (placed 2 place) | none ↦ lookedUp table text (pathText path) ]
       ]
+    ]
+
+-- ---- Document 02, No. 3: "a reader of lengths from a looked-up value". Its records and the text part in; micrometres, or a refusal, out.
+
+-- a length is written in a number or a string; any other value is malformed, 20
+unfoldable pub recordLength : (table text : List ℕ) → Measured
+unfolding textAt noLength lengthOf
+recordLength table text =
+    elim (within kinds.number kinds.string (byteAt table 0)) [
+      | true ↦ lengthOf (eqb (byteAt table 0) kinds.string) (textAt table text 0)
+      | false ↦ noLength (nowhere 20)
+    ]
+
+-- "tested in the order named, after 1 and 15", which are look-up's
+unfoldable pub lengthJob : (table text : List ℕ) → Measured
+unfolding isWhole noLength recordLength
+lengthJob table text =
+    elim (leb (length table) maxRoom && leb (length text) maxRoom) [
+      | false ↦ noLength (nowhere 1)
+      | true ↦ elim (isWhole table (length text)) [ false ↦ noLength (nowhere 15) | true ↦ recordLength table text ]
     ]

@@ -23,9 +23,11 @@ pub mod Checking
 pub mod Meaning
 pub mod LookUp
 pub mod NamedValues
+pub mod Micrometres
 pub mod Jobs
 pub mod Counting
 pub mod Reordering
 pub mod Cases
 pub mod Examples
 pub mod EnvironmentExamples
+pub mod LengthExamples

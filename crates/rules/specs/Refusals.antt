@@ -24,6 +24,11 @@ use lib.ListN.{length}
 -- 15 looked-up records that are not one whole table: Jobs.lookUpJob
 -- 16 a path that names nothing: Jobs.foundAt
 -- 17 a sheet that is not accepted: Jobs.verdict
+-- Document 02, No. 3, a length: 1 and 15 as in look-up, then "in this order":
+-- 20 malformed: Micrometres.{lengthOf, withRest, withUnit}, Jobs.recordLength
+-- 21 a bare number: Micrometres.withRest
+-- 22 a minus sign: Micrometres.withUnit
+-- 23 not whole micrometres, 24 over 1,000,000: Micrometres.inMicrometres
 
 -- which of them each job gives (docs/DECISIONS.md, R3 and R43)
 abbrev pub resolveNumbers : List ℕ
@@ -36,6 +41,10 @@ checkNumbers = 1 ∷ 2 ∷ 3 ∷ 4 ∷ 5 ∷ 6 ∷ 7 ∷ 8 ∷ 11 ∷ 17 ∷ []
 -- "Look up: 1, 15, then 2 to 8 on the path text (6 is not given there), then 16."
 abbrev pub lookUpNumbers : List ℕ
 lookUpNumbers = 1 ∷ 2 ∷ 3 ∷ 4 ∷ 5 ∷ 7 ∷ 8 ∷ 15 ∷ 16 ∷ []
+
+-- a length: "tested in the order named, after 1 and 15"
+abbrev pub lengthNumbers : List ℕ
+lengthNumbers = 1 ∷ 15 ∷ 20 ∷ 21 ∷ 22 ∷ 23 ∷ 24 ∷ []
 
 -- A refusal has its number, and a place in what is read or none (place 0 by the paper's table).
 pub data Refusal : Type 0 where

@@ -46,3 +46,7 @@ maxText = 16384
 -- "Each output buffer may have any length; its first 32,768 bytes are its room"; also what may be lent to check and look-up.
 abbrev pub maxRoom : ℕ
 maxRoom = 32768
+
+-- Document 02, No. 3: a length "over 1,000,000" micrometres is refused
+abbrev pub maxMicrometres : ℕ
+maxMicrometres = 1000000

@@ -48,8 +48,8 @@ pub fn after_digits(s: &[u8], c: Cursor) -> Cursor
     }
 }
 
-// A zero alone, or digits that start with none.
-fn after_int(s: &[u8], c: Cursor) -> Number
+/// A zero alone, or digits that start with none.
+pub fn after_int(s: &[u8], c: Cursor) -> Number
     requires { ⌜ (length (now s) ≤ maxDocument) × (c .at .0 ≤ length (now s)) ⌝ }
     ensures { λ r. ⌜ NumberIs (now (s .entry)) (c .at .0) (afterInt (now (s .entry)) (c .at .0)) r ⌝ }
 {
@@ -66,8 +66,8 @@ fn after_int(s: &[u8], c: Cursor) -> Number
     Number::Missing
 }
 
-// The fraction, if there is one: a dot and at least one digit.
-fn after_fraction(s: &[u8], int: Cursor) -> Cursor
+/// The fraction, if there is one: a dot and at least one digit.
+pub fn after_fraction(s: &[u8], int: Cursor) -> Cursor
     requires { ⌜ (length (now s) ≤ maxDocument) × (int .at .0 ≤ length (now s)) ⌝ }
     ensures { λ r. ⌜ EndIs (now (s .entry)) (int .at .0) (afterFraction (now (s .entry)) (int .at .0)) r ⌝ }
 {

@@ -46,6 +46,8 @@ pub mod LaidOut
 pub mod NamedValues
 pub mod SheetLookUps
 pub mod TrailAnswers
+-- lengths
+pub mod Micrometres
 -- the jobs: resolve and check held against each other
 pub mod Jobs
 pub mod BothJobs

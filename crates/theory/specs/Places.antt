@@ -69,6 +69,9 @@ module _ (s : List ℕ) where
   pub inline-moves : (p : ℕ) → isInline (characterAt s p) ≡ true → (p < length s) × (p < nextPlace s p)
   inline-moves = unread isInline refl
 
+  pub space-moves : (p : ℕ) → isSpace (characterAt s p) ≡ true → (p < length s) × (p < nextPlace s p)
+  space-moves = unread isSpace refl
+
   pub digit-moves : (p : ℕ) → isDigit (byteAt s p) ≡ true → (p < length s) × (p < p + 1)
   digit-moves p e = (inside s p (λ past. rw (byte-past s p past)) e, omega arith)
 

@@ -3,7 +3,7 @@
 use mathlib.Core.Path.{_≡_, refl, sym, ap, subst, _∙_}
 use Prim.Native.Nat.{ℕ, zero, suc, _+_, _-_, _≤_}
 use mathlib.Core.List.{List, [], _∷_}
-use mathlib.Core.Bool.{true, false}
+use mathlib.Core.Bool.{Bool, true, false}
 use mathlib.Core.Option.{Option, none, some}
 use mathlib.Core.Logic.{_↔_}
 use native.Mathlib.Omega.{arith}
@@ -16,16 +16,17 @@ use Rattle.answers.specs.Resolve.{answer, resolve}
 use Rattle.answers.specs.Theory.Sound.{clash}
 use Rattle.rules.specs.Sizes.{maxBudget, maxPathText, maxNesting, maxRoom}
 use Rattle.rules.specs.Bytes.{Text, At}
-use Rattle.rules.specs.Refusals.{resolveNumbers, checkNumbers, lookUpNumbers, Refusal, placed, nowhere, numberOf, placeOf, ok, refused}
+use Rattle.rules.specs.Refusals.{resolveNumbers, checkNumbers, lookUpNumbers, lengthNumbers, Refusal, placed, nowhere, numberOf, placeOf, ok, refused}
 use Rattle.rules.specs.Utf8.{illFormed}
 use Rattle.rules.specs.Paths.{pathText}
 use Rattle.rules.specs.Values.{Value, Answer, recordSize}
 use Rattle.rules.specs.Unresolved.{rootValue}
 use Rattle.rules.specs.Documents.{Setting, valid, refused, inputs, countOf}
 use Rattle.rules.specs.Sheet.{records, texts}
-use Rattle.rules.specs.LookUp.{isWhole, afterValue, valueNamed}
+use Rattle.rules.specs.LookUp.{isWhole, afterValue, textAt, valueNamed}
+use Rattle.rules.specs.Micrometres.{Measured, noLength}
 use Rattle.rules.specs.NamedValues.{valueAt}
-use Rattle.rules.specs.Jobs.{refusedWith, roomOf, orderOf, resolveJob, buffersOf, checkJob, Found, notFound, foundAt, lookUpJob, partAt}
+use Rattle.rules.specs.Jobs.{refusedWith, roomOf, orderOf, resolveJob, buffersOf, checkJob, Found, notFound, foundAt, lookUpJob, partAt, recordLength, lengthJob}
 use Rattle.rules.specs.Reordering.{LaidOut}
 use Rattle.theory.specs.Scanning.{Among, among-all, readingNumbers}
 use Rattle.theory.specs.ReadingEnds.{inputs-numbers}
@@ -34,6 +35,7 @@ use Rattle.theory.specs.PathNumbers.{pathNumbers}
 use Rattle.theory.specs.LookUpSteps.{found-none, found-part, look-up-long, look-up-not-whole, look-up-ill-formed, look-up-bad-path, look-up-path}
 use Rattle.theory.specs.LookUps as looks
 use Rattle.theory.specs.SheetLookUps as sheets
+use Rattle.theory.specs.Micrometres.{Exact, formNumbers, Answered, exactly, refusal, record-answered, length-answered, length-long, length-not-whole, length-whole}
 use Rattle.theory.specs.Jobs.{success-inv, success-is, Approval, approval-inv}
 use Rattle.theory.specs.Counts.{success-laid-out}
 use Rattle.theory.specs.BothJobs.{approval-sheet}
@@ -363,3 +365,57 @@ pub resolved-look-up : (document environment : List ℕ) (budget trailLength tab
     → (path : List ℕ) (names : List Text) (end : ℕ) → length path ≤ maxPathText → illFormed path ≡ none → pathText path ≡ ok names end
     → FoundIn (r .table) (r .text) (lookUpJob (r .table) (r .text) path) (valueAt names v)
 resolved-look-up d e budget l m n done′ S v laid = accepted-look-up d e _ _ _ (resolved-accepted d e budget l m n done′) S v laid
+
+-- ---- lengths (document 02, No. 3)
+
+-- a refusal has a number of the list, "at place 0, outputs zero"
+pub length-refusal : (table text : List ℕ)
+    → let r = lengthJob table text in
+    Refuses (r .number) → OneOf lengthNumbers (r .number) × (r ≡ noLength (nowhere (r .number)))
+unfolding noLength
+length-refusal table text h = go (lengthJob table text) h (length-answered table text)
+  where
+    go : (r : Measured) → Refuses (r .number) → Answered lengthNumbers (textAt table text 0) r
+        → OneOf lengthNumbers (r .number) × (r ≡ noLength (nowhere (r .number)))
+    go r h (exactly z e) = absurd (h z)
+    go r h (refusal n m q) = rw q (m, refl)
+
+-- What is answered is exact, and within its limit: so many times ten to the number of digits behind the dot are the digits times the unit.
+pub length-exact : (table text : List ℕ) → let r = lengthJob table text in r .number ≡ 0 → Exact (textAt table text 0) (r .micrometres)
+unfolding noLength
+length-exact table text z = go (lengthJob table text) z (length-answered table text)
+  where
+    go : (r : Measured) → r .number ≡ 0 → Answered lengthNumbers (textAt table text 0) r → Exact (textAt table text 0) (r .micrometres)
+    go r z (exactly _ e) = e
+    go r z (refusal n m q) = clash (cc (sym (ap (λ i. mem i lengthNumbers) (sym (ap (λ x. x .number) q) ∙ z)) ∙ m))
+
+-- a table and a text that may be lent
+abbrev pub LentParts : (table text : List ℕ) → Type 0
+LentParts table text = (length table ≤ maxRoom) × (length text ≤ maxRoom)
+
+module _ (table text : List ℕ) where
+  -- of a whole table neither 1 nor 15 is given
+  not-record : (n : ℕ) → mem n formNumbers ≡ false → Refuses n → recordLength table text .number ≡ n → ⊥
+  unfolding noLength
+  not-record n m h e = go (recordLength table text) e (record-answered table text)
+    where
+      go : (r : Measured) → r .number ≡ n → Answered formNumbers (textAt table text 0) r → ⊥
+      go r e (exactly z x) = h (sym e ∙ z)
+      go r e (refusal k l q) = clash (cc (sym l ∙ ap (λ i. mem i formNumbers) (sym (ap (λ x. x .number) q) ∙ e) ∙ m))
+
+  -- 1 and 15 are look-up's
+  pub length-1 : (lengthJob table text .number ≡ 1) ↔ (LentParts table text → ⊥)
+  unfolding noLength
+  length-1 = (λ e l. go e l (isWhole table (length text)) refl, λ h. ap (λ r. r .number) (length-long table text (λ a b. h (a, b))))
+    where
+      go : lengthJob table text .number ≡ 1 → LentParts table text → (w : Bool) → isWhole table (length text) ≡ w → ⊥
+      go e l true w = not-record 1 refl (λ z. absurd (omega arith)) (sym (ap (λ r. r .number) (length-whole table text (l .0) (l .1) w)) ∙ e)
+      go e l false w = absurd (omega (arith, e, ap (λ r. r .number) (length-not-whole table text (l .0) (l .1) w)))
+
+  pub length-15 : LentParts table text → (lengthJob table text .number ≡ 15) ↔ (isWhole table (length text) ≡ false)
+  unfolding noLength
+  length-15 l = (λ e. go e (isWhole table (length text)) refl, λ w. ap (λ r. r .number) (length-not-whole table text (l .0) (l .1) w))
+    where
+      go : lengthJob table text .number ≡ 15 → (w : Bool) → isWhole table (length text) ≡ w → isWhole table (length text) ≡ false
+      go e true w = absurd (not-record 15 refl (λ z. absurd (omega arith)) (sym (ap (λ r. r .number) (length-whole table text (l .0) (l .1) w)) ∙ e))
+      go e false w = w

@@ -7,12 +7,13 @@ use native.Mathlib.Omega.{arith}
 use lib.Dec.{ltb, eqb}
 use lib.ListN.{length}
 use Rattle.rules.specs.Bytes.{byteAt}
-use Rattle.rules.specs.Characters.{noCharacter, nextPlace, characterAt, isNewline, isInline, afterInline, lineEnd}
+use Rattle.rules.specs.Characters.{noCharacter, nextPlace, characterAt, isNewline, isSpace, isInline, afterInline, lineEnd}
+use Rattle.rules.specs.Micrometres.{afterSpace}
 use Rattle.rules.specs.Numbers.{isDigit, afterDigits}
 use Rattle.rules.specs.Strings.{threeQuotes, quotesRun, afterQuotes}
 use Rattle.rules.specs.Pieces.{stopsUnquoted, unquotedEnd}
 use Rattle.theory.specs.Skips.{skip-on, skip-off}
-use Rattle.theory.specs.Places.{inline-moves, line-moves, digit-moves, run-moves, quote-moves, unquoted-moves}
+use Rattle.theory.specs.Places.{inline-moves, space-moves, line-moves, digit-moves, run-moves, quote-moves, unquoted-moves}
 
 module _ (s : List ℕ) (at : ℕ) where
   enough : length s - at ≤ length s
@@ -25,6 +26,14 @@ module _ (s : List ℕ) (at : ℕ) where
   pub inline-off : isInline (characterAt s at) ≡ false → afterInline s at ≡ at
   unfolding afterInline
   inline-off e = skip-off _ _ (length s) (inline-moves s) (length s) at e
+
+  pub space-on : isSpace (characterAt s at) ≡ true → afterSpace s at ≡ afterSpace s (nextPlace s at)
+  unfolding afterSpace
+  space-on e = skip-on _ _ (length s) (space-moves s) (length s) at enough e
+
+  pub space-off : isSpace (characterAt s at) ≡ false → afterSpace s at ≡ at
+  unfolding afterSpace
+  space-off e = skip-off _ _ (length s) (space-moves s) (length s) at e
 
   pub line-on : not (isNewline (characterAt s at) || eqb (characterAt s at) noCharacter) ≡ true → lineEnd s at ≡ lineEnd s (nextPlace s at)
   unfolding lineEnd

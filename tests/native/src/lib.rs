@@ -1,5 +1,6 @@
-//! The exported look-up as Rust calls it, and what the tests hold it against.
+//! The exported look-up and lengths as Rust calls them, and what the tests hold them against.
 
+pub mod lengths;
 pub mod plain;
 pub mod random;
 
@@ -15,6 +16,9 @@ pub struct Refusal {
 /// What a look-up answers: where in the table the named value lies, or a refusal.
 pub type Answer = Result<Range<usize>, Refusal>;
 
+/// What reading a length answers: micrometres, or a refusal's number.
+pub type Length = Result<u32, u8>;
+
 extern "C" {
     // Nothing holds this to the library's own source: keep it equal to include/dzintrulo.h.
     fn dz_look_up(
@@ -25,6 +29,7 @@ extern "C" {
         path: *const u8,
         path_len: usize,
     ) -> u64;
+    fn dz_length(table: *const u8, table_len: usize, text: *const u8, text_len: usize) -> u64;
 }
 
 /// The exported look-up, with its answer taken apart.
@@ -45,6 +50,22 @@ fn unpack(word: u64) -> Answer {
         number => {
             assert!(word >> 22 == 0, "refused, with bits set past the place: {word:#x}");
             Err(Refusal { number, place: field(6) })
+        }
+    }
+}
+
+/// The exported reader of lengths, with its answer taken apart. Panics if a bit is set that its case leaves unused.
+pub fn length(table: &[u8], text: &[u8]) -> Length {
+    // SAFETY: each pointer comes with the length of its slice, the function only reads, and it has no precondition.
+    let word = unsafe { dz_length(table.as_ptr(), table.len(), text.as_ptr(), text.len()) };
+    match (word % 64) as u8 {
+        0 => {
+            assert!(word >> 26 == 0, "a length, with bits set past the micrometres: {word:#x}");
+            Ok((word >> 6) as u32)
+        }
+        number => {
+            assert!(word >> 6 == 0, "refused, with bits set past the number: {word:#x}");
+            Err(number)
         }
     }
 }

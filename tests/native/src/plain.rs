@@ -1,7 +1,8 @@
-//! A plain look-up: document 01 put into everyday Rust, to hold the library against. It shares nothing with the
-//! library, neither code nor definitions, so that a mistake in one is no mistake in the other.
+//! A plain look-up and a plain reader of lengths: documents 01 and 02 put into everyday Rust, to hold the library
+//! against. They share nothing with the library, neither code nor definitions, so that a mistake in one is no mistake in
+//! the other.
 
-use crate::{Answer, Refusal};
+use crate::{Answer, Length, Refusal};
 
 /// "a part of a sheet, lent to check or look-up, is over 32,768 bytes"
 const MAX_PART: usize = 32_768;
@@ -24,6 +25,81 @@ pub fn look_up(table: &[u8], text: &[u8], path: &[u8]) -> Answer {
     match start.and_then(|start| Some(start..records.end(start, MAX_NESTING)?)) {
         Some(found) => Ok(found),
         None => refuse(16, 0),
+    }
+}
+
+/// The length that the value `table` writes; document 02, No. 3: "Refused, in this order: malformed (exponents and all
+/// else), a bare number (kind 4 or 5), a minus sign, not whole micrometres (`0.0001 mm`), over 1,000,000", after 1 and 15.
+pub fn length(table: &[u8], text: &[u8]) -> Length {
+    if table.len() > MAX_PART || text.len() > MAX_PART {
+        return Err(1);
+    }
+    let records = Records { table, text };
+    if records.end(0, MAX_NESTING) != Some(table.len()) {
+        return Err(15);
+    }
+    let written = match table[0] {
+        4 | 5 => records.text(0).ok_or(15)?,
+        _ => return Err(20),
+    };
+    let (minus, rest) = written.strip_prefix(b"-").map_or((false, written), |rest| (true, rest));
+    let (whole, rest) = digits(rest);
+    if whole.is_empty() || whole.len() > 1 && whole[0] == b'0' {
+        return Err(20);
+    }
+    let (fraction, rest) = match rest.strip_prefix(b".") {
+        Some(rest) if digits(rest).0.is_empty() => return Err(20),
+        Some(rest) => digits(rest),
+        None => (&[][..], rest),
+    };
+    if rest.is_empty() {
+        return Err(21);
+    }
+    let gap = rest.iter().take_while(|byte| is_whitespace(char::from(**byte))).count();
+    let unit = match &rest[gap..] {
+        b"um" => 1,
+        b"mm" => 1_000,
+        b"in" => 25_400,
+        _ => return Err(20),
+    };
+    if table[0] == 4 {
+        return Err(20);
+    }
+    if minus {
+        return Err(22);
+    }
+    micrometres(whole, fraction, unit)
+}
+
+/// The digits that some bytes start with, and the rest.
+fn digits(bytes: &[u8]) -> (&[u8], &[u8]) {
+    bytes.split_at(bytes.iter().take_while(|byte| byte.is_ascii_digit()).count())
+}
+
+/// The digits times the unit by long multiplication, and then without as many of the last digits as stand behind the dot.
+fn micrometres(whole: &[u8], fraction: &[u8], unit: u64) -> Length {
+    let mut product = Vec::new(); // the last digit first
+    let mut carry = 0;
+    for digit in whole.iter().chain(fraction).rev() {
+        carry += u64::from(digit - b'0') * unit;
+        product.push(carry % 10);
+        carry /= 10;
+    }
+    while carry > 0 {
+        product.push(carry % 10);
+        carry /= 10;
+    }
+    let (left_over, quotient) = product.split_at(fraction.len());
+    if left_over.iter().any(|digit| *digit != 0) {
+        return Err(23);
+    }
+    let size = quotient.iter().rposition(|digit| *digit != 0).map_or(0, |last| last + 1);
+    if size > 7 {
+        return Err(24);
+    }
+    match quotient[..size].iter().rev().fold(0, |sum, digit| sum * 10 + digit) {
+        sum @ 0..=1_000_000 => Ok(sum as u32),
+        _ => Err(24),
     }
 }
 

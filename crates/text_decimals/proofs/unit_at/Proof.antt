@@ -1,0 +1,17 @@
+-- laws: unit-ends-with
+use Rattle.text_decimals.proofs.Forms.{unit-ends-with}
+use borrow.Author.Needs.{needs}
+use Rattle.text_decimals.proofs.unit_at.Statement.{statement}
+use Rattle.text_decimals.proofs.unit_at.Tie as tie
+
+pub unit-at-spec : {M : Type 1} → statement M
+unit-at-spec =
+    tie.close
+    (tie.spec
+    (λ c. search needs)
+    (λ c κs. search needs)
+    (λ c. search needs)
+    (λ c κs. search needs)
+    (λ c κs. search needs)
+    (λ c. search unit-ends-with)
+    (λ c. search unit-ends-with))

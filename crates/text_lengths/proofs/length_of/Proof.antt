@@ -1,0 +1,20 @@
+-- laws: texts
+use Rattle.text_lengths.proofs.Lengths.{texts, places}
+use borrow.Author.Needs.{needs}
+use Rattle.text_lengths.proofs.length_of.Statement.{statement}
+use Rattle.text_lengths.proofs.length_of.Tie as tie
+
+pub length-of-spec : {M : Type 1} → statement M
+length-of-spec =
+    tie.close
+    (tie.spec
+    (λ c κs. search needs)
+    (λ c. search needs)
+    (λ c. search needs)
+    (λ c κs. search needs)
+    (λ c. search needs)
+    (λ c. search needs)
+    (λ c κs. search places)
+    (λ c. search texts)
+    (λ c. search texts)
+    (λ c. search texts))

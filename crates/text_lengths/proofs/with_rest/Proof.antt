@@ -1,0 +1,20 @@
+-- laws: rests
+use Rattle.text_lengths.proofs.Lengths.{rests, unit-needs}
+use borrow.Author.Needs.{needs}
+use Rattle.text_lengths.proofs.with_rest.Statement.{statement}
+use Rattle.text_lengths.proofs.with_rest.Tie as tie
+
+pub with-rest-spec : {M : Type 1} → statement M
+with-rest-spec =
+    tie.close
+    (tie.spec
+    (λ c. search rests)
+    (λ c κs. search needs)
+    (λ c κs. search needs)
+    (λ c. search needs)
+    (λ c. search needs)
+    (λ c. search rests)
+    (λ c κs. search unit-needs)
+    (λ c. search rests)
+    (λ c. search rests)
+    (λ c. search rests))

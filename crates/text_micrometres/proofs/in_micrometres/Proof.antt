@@ -1,0 +1,19 @@
+-- laws: ins
+use Rattle.text_micrometres.proofs.Digits.{ins, in-fits}
+use borrow.Author.Needs.{needs}
+use Rattle.text_micrometres.proofs.in_micrometres.Statement.{statement}
+use Rattle.text_micrometres.proofs.in_micrometres.Tie as tie
+
+pub in-micrometres-spec : {M : Type 1} → statement M
+in-micrometres-spec =
+    tie.close
+    (tie.spec
+    (λ c. search needs)
+    (λ c κs. search needs)
+    (λ c. search needs)
+    (λ c. search needs)
+    (λ c κs. search needs)
+    (λ c. search in-fits)
+    (λ c. search ins)
+    (λ c. search ins)
+    (λ c. search ins))
