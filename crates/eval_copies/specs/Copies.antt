@@ -98,7 +98,7 @@ module _ (key : ℕ → Text) (T s : List ℕ) (tb : ℕ) where
       let g : max 0 (W .deep) ≡ W .deep = omega arith in
       rw (f, e) (ap (acted (W .xs) (W .ws) (W .next)) g)
 
-  stands-body : (b c : ℕ) (ys tx : List ℕ) (p u : ℕ) → Stands s tb (b ∷ two c ++ ys) tx p u → Stands s tb ys tx (p + 3) u
+  pub stands-body : (b c : ℕ) (ys tx : List ℕ) (p u : ℕ) → Stands s tb (b ∷ two c ++ ys) tx p u → Stands s tb ys tx (p + 3) u
   unfolding two
   stands-body b c ys tx p u h =
       let e : u + 0 ≡ u = omega arith in
@@ -142,7 +142,7 @@ module _ (key : ℕ → Text) (T s : List ℕ) (tb : ℕ) where
         ∙ ap (λ (q : ℕ). acted (7 ∷ two c ++ keptFields key t ms) (wordsOf (flatFields key ms)) q (max 0 (deepestMember (namedFields key ms)) + 1)) e
         ∙ ap (acted (7 ∷ two c ++ keptFields key t ms) (wordsOf (flatFields key ms)) (p + suc (suc (suc (length (keptFields key t ms)))))) i
 
-    copy-all : (vs : Helds) (n p t u : ℕ) → deepestValue (namedAll key vs) ≤ n → AllKeysIn key T s vs → Stands s tb (keptAll key u vs) (valueTexts (namedAll key vs)) p u
+    pub copy-all : (vs : Helds) (n p t u : ℕ) → deepestValue (namedAll key vs) ≤ n → AllKeysIn key T s vs → Stands s tb (keptAll key u vs) (valueTexts (namedAll key vs)) p u
         → copyMs (λ q u. copyV n T s tb q u) T s false (countHelds vs) p t ≡ acted (keptAll key t vs) (wordsOf (flatAll key vs)) (p + length (keptAll key t vs)) (deepestValue (namedAll key vs))
     copy-all no-helds n p t u d k h = let e : p ≡ p + 0 = omega arith in ap (act [] []) e
     copy-all (also v vs) n p t u d k h =

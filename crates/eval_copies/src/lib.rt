@@ -135,7 +135,7 @@ fn copy_held(
 }
 
 // So many members, one behind the other. Each takes a byte at least, so however many are promised, the bytes' end is soon met.
-fn copy_members(
+pub fn copy_members(
     room: &mut [u8],
     table: &[u16],
     bytes: &[u8],

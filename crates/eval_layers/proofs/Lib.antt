@@ -1,4 +1,4 @@
-pub mod Stacks
-pub mod Members
+pub mod Walks
+pub mod Picks
 pub mod Depths
 pub mod Tops

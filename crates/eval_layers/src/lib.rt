@@ -1,17 +1,20 @@
-// Layers on a stack. The layers of a path stand on it one above the other, the last written on top; one key deeper they stand above
-// them. All are walked at once: the answers do not change meanwhile, and a mark says where a missing one ended the walk.
+// Layers on the stack. The layers of a path stand on it one above the other, the last written on top; one key deeper they stand above
+// them. All are walked at once: the answers do not change meanwhile, and a mark says where a missing one ended the walk. Keys are numbers.
 // Computes: Layers (deeper, gather, by the model in specs/Model)
 use eval_answers::Answered;
-use eval_members::Key;
 use eval_members::Member;
 use eval_members::View;
+use eval_stack::code_at;
+use eval_stack::push;
 ghost use mathlib.Core.Path.{_≡_};
 ghost use Prim.Native.Nat.{_<_, _-_};
-ghost use lib.ListN.{length};
-ghost use Rattle.eval_members.specs.Contracts.{Near, Few};
-ghost use Rattle.eval_layers.specs.Model.{pushC, pushLayerC, pushNamedC, pushMembersC, insideBy, membersOf, ofOtherC, ofEndC};
-ghost use Rattle.eval_members.specs.Model.{viewAt};
-ghost use Rattle.eval_layers.specs.Contracts.{Looking, Stack, Segment, Grew, walked, WalkedIs, DeeperIs, GatherIs};
+ghost use Rattle.doc_items.specs.Room.{numberBound};
+ghost use Rattle.eval_members.specs.Contracts.{Few};
+ghost use Rattle.eval_members.specs.Model.{viewAt, membersOf};
+ghost use Rattle.eval_stack.specs.Model.{entries};
+ghost use Rattle.eval_stack.specs.Contracts.{Stack, Segment};
+ghost use Rattle.eval_layers.specs.Model.{pushLayerC, pushNamedC, pushMembersC, insideBy, ofOtherC, ofEndC};
+ghost use Rattle.eval_layers.specs.Contracts.{walked, WalkedIs, DeeperIs, GatherIs};
 
 /// Where a walk ended: at the end of the layers, or at an unresolved value that has no answer yet.
 pub enum Stuck {
@@ -35,49 +38,36 @@ pub struct Part {
 }
 
 /// What layers come to.
-pub enum Counted {
+pub enum Taken {
     /// There is none.
     Nothing,
     /// The topmost, which is no object.
     One(usize),
     /// The answer of this question is needed first.
     Needs(usize),
-    /// The merge of so many objects on top.
+    /// The merge of objects: they stand on the stack up to here, the last written first.
     Merged(usize),
-}
-
-/// Pushes a number, if there is room. One without room would be dropped; that never happens in a job, whose stack has room for what all its
-/// layers weigh (the rules' theory, `Room`), and the model says of each walk what it does to a stack of any length.
-pub fn push(stack: &mut [usize], base: usize, top: usize, layer: usize) -> usize
-    requires { ⌜ Stack base top (now stack) ⌝ }
-    ensures { λ r. ⌜ Grew base (now (stack .entry)) top (pushC layer) (now (stack .exit)) r ⌝ }
-{
-    if top < stack.len() {
-        stack[top] = layer;
-        return top + 1;
-    }
-    top
 }
 
 /// Lays a node above the layers from base on.
 pub fn push_layer(
     table: &[u16],
-    stack: &mut [usize],
+    work: &mut [u16],
     base: usize,
-    w: Walked,
+    walk: Walked,
     layer: usize,
 ) -> Walked
-    requires { ⌜ Stack base (w .top) (now stack) ⌝ }
-    ensures { λ r. ⌜ WalkedIs base (now (stack .entry)) (now (stack .exit)) r (pushLayerC (now (table .entry)) (length (now
-        (stack .entry)) - base) layer (walked (now (stack .entry)) base w)) ⌝ }
+    requires { ⌜ Stack base (walk .top) (now work) × (layer < numberBound) ⌝ }
+    ensures { λ r. ⌜ WalkedIs base (now (work .entry)) (now (work .exit)) r (pushLayerC (now (table .entry)) (entries - base) layer
+        (walked (now (work .entry)) base walk)) ⌝ }
 {
     match eval_members::layer_of(table, layer) {
         Answered::Layer(d) => {
-            let t = push(stack, base, w.top, d);
-            let stuck = w.stuck;
-            Walked { top: t, stuck }
+            let top = push(work, walk.top, d);
+            let stuck = walk.stuck;
+            Walked { top, stuck }
         }
-        Answered::Undefined => w,
+        Answered::Undefined => walk,
         Answered::Missing(b) => Walked {
             top: base,
             stuck: Stuck::At(b),
@@ -89,43 +79,39 @@ pub fn push_layer(
 fn push_named(
     table: &[u16],
     records: &[u8],
-    texts: &[u8],
-    stack: &mut [usize],
+    work: &mut [u16],
     base: usize,
-    w: Walked,
-    key: Key,
+    walk: Walked,
+    key: usize,
     layer: usize,
 ) -> Walked
-    requires { ⌜ Looking (now records) (now texts) × Near key × Stack base (w .top) (now stack) ⌝ }
-    ensures { λ r. ⌜ WalkedIs base (now (stack .entry)) (now (stack .exit)) r (pushNamedC (now (table .entry)) (now (records .entry))
-        (now (texts .entry)) key (length (now (stack .entry)) - base) layer (walked (now (stack .entry)) base w)) ⌝ }
+    requires { ⌜ Few (now records) × Stack base (walk .top) (now work) × (layer < numberBound) ⌝ }
+    ensures { λ r. ⌜ WalkedIs base (now (work .entry)) (now (work .exit)) r (pushNamedC (now (table .entry)) (now (records .entry)) key
+        (entries - base) layer (walked (now (work .entry)) base walk)) ⌝ }
 {
-    let j = eval_members::key_of(table, records, layer);
-    if eval_members::same_key(texts, j, key) {
-        return push_layer(table, stack, base, w, layer);
+    if eval_members::key_of(table, records, layer) == key {
+        return push_layer(table, work, base, walk, layer);
     }
-    w
+    walk
 }
 
 /// Lays the members with a key, of those from one place up to another.
 pub fn push_members_named(
     table: &[u16],
     records: &[u8],
-    texts: &[u8],
-    stack: &mut [usize],
+    work: &mut [u16],
     base: usize,
-    w: Walked,
-    key: Key,
+    walk: Walked,
+    key: usize,
     from: usize,
     end: usize,
 ) -> Walked
-    requires { ⌜ Looking (now records) (now texts) × Near key × Stack base (w .top) (now stack) ⌝ }
-    ensures { λ r. ⌜ WalkedIs base (now (stack .entry)) (now (stack .exit)) r (pushMembersC (now (table .entry)) (now (records .entry))
-        (now (texts .entry)) key (length (now (stack .entry)) - base) (membersOf (now (table .entry)) (now
-        (records .entry)) from end) (walked (now (stack .entry)) base w)) ⌝ }
+    requires { ⌜ Few (now records) × Stack base (walk .top) (now work) ⌝ }
+    ensures { λ r. ⌜ WalkedIs base (now (work .entry)) (now (work .exit)) r (pushMembersC (now (table .entry)) (now (records .entry)) key
+        (entries - base) (membersOf (now (table .entry)) (now (records .entry)) from end) (walked (now (work .entry)) base walk)) ⌝ }
 {
     let mut at = from;
-    let mut t = w;
+    let mut t = walk;
     loop {
         match eval_members::member_at(table, records, at, end) {
             Member::End => {
@@ -135,7 +121,7 @@ pub fn push_members_named(
                 at = next;
             }
             Member::At { layer, next } => {
-                t = push_named(table, records, texts, stack, base, t, key, layer);
+                t = push_named(table, records, work, base, t, key, layer);
                 at = next;
             }
         }
@@ -146,34 +132,24 @@ pub fn push_members_named(
 fn inside(
     table: &[u16],
     records: &[u8],
-    texts: &[u8],
-    stack: &mut [usize],
+    work: &mut [u16],
     base: usize,
-    w: Walked,
-    key: Key,
+    walk: Walked,
+    key: usize,
     layer: usize,
 ) -> Walked
-    requires { ⌜ Looking (now records) (now texts) × Near key × Stack base (w .top) (now stack) ⌝ }
-    ensures { λ r. ⌜ WalkedIs base (now (stack .entry)) (now (stack .exit)) r (insideBy (now (table .entry)) (now (records .entry)) (now
-        (texts .entry)) key (length (now (stack .entry)) - base) (walked (now (stack .entry)) base w) (viewAt (now
-        (table .entry)) (now (records .entry)) layer)) ⌝ }
+    requires { ⌜ Few (now records) × Stack base (walk .top) (now work) ⌝ }
+    ensures { λ r. ⌜ WalkedIs base (now (work .entry)) (now (work .exit)) r (insideBy (now (table .entry)) (now (records .entry)) key
+        (entries - base) (walked (now (work .entry)) base walk) (viewAt (now (table .entry)) (now (records .entry)) layer)) ⌝ }
 {
     match eval_members::view_of(table, records, layer) {
         View::Other => Walked {
             top: base,
             stuck: Stuck::No,
         },
-        View::Object { first, end } => push_members_named(
-            table,
-            records,
-            texts,
-            stack,
-            base,
-            w,
-            key,
-            first,
-            end,
-        ),
+        View::Object { first, end } => {
+            push_members_named(table, records, work, base, walk, key, first, end)
+        }
     }
 }
 
@@ -181,72 +157,74 @@ fn inside(
 pub fn deeper(
     table: &[u16],
     records: &[u8],
-    texts: &[u8],
-    stack: &mut [usize],
+    work: &mut [u16],
     part: Part,
     base: usize,
-    key: Key,
+    key: usize,
 ) -> Walked
-    requires { ⌜ Looking (now records) (now texts) × Near key × Segment (part .lo) (part .hi) base (now stack) ⌝ }
-    ensures { λ r. ⌜ DeeperIs (now (table .entry)) (now (records .entry)) (now (texts .entry)) (part .lo) (part .hi)
-        (part .stuck) base key (now (stack .entry)) (now (stack .exit)) r ⌝ }
+    requires { ⌜ Few (now records) × Segment (part .lo) (part .hi) base (now work) ⌝ }
+    ensures { λ r. ⌜ DeeperIs (now (table .entry)) (now (records .entry)) (part .lo) (part .hi) (part .stuck) base key
+        (now (work .entry)) (now (work .exit)) r ⌝ }
 {
     let hi = part.hi;
     let stuck = part.stuck;
     let mut i = part.lo;
-    let mut w = Walked { top: base, stuck };
+    let mut walk = Walked { top: base, stuck };
     while i < hi {
-        let layer = stack[i];
-        w = inside(table, records, texts, stack, base, w, key, layer);
+        let layer = code_at(work, i);
+        walk = inside(table, records, work, base, walk, key, layer);
         i += 1;
     }
-    w
+    walk
 }
 
-// What a layer that is no object comes to below so many objects.
-fn of_other(layer: usize, n: usize) -> Counted
-    ensures { λ r. ⌜ r ≡ ofOtherC layer n ⌝ }
+/// What a layer that is no object comes to below the objects from base to top.
+pub fn of_other(layer: usize, base: usize, top: usize) -> Taken
+    ensures { λ r. ⌜ r ≡ ofOtherC layer base top ⌝ }
 {
-    if n == 0 {
-        return Counted::One(layer);
+    if base == top {
+        return Taken::One(layer);
     }
-    Counted::Merged(n)
+    Taken::Merged(top)
 }
 
-// What the end of the layers comes to below so many objects.
-fn of_end(stuck: Stuck, n: usize) -> Counted
-    ensures { λ r. ⌜ r ≡ ofEndC stuck n ⌝ }
+/// What the end of the layers comes to below the objects from base to top.
+pub fn of_end(stuck: Stuck, base: usize, top: usize) -> Taken
+    ensures { λ r. ⌜ r ≡ ofEndC stuck base top ⌝ }
 {
     match stuck {
-        Stuck::At(b) => Counted::Needs(b),
+        Stuck::At(b) => Taken::Needs(b),
         Stuck::No => {
-            if n == 0 {
-                return Counted::Nothing;
+            if base == top {
+                return Taken::Nothing;
             }
-            Counted::Merged(n)
+            Taken::Merged(top)
         }
     }
 }
 
-/// What the layers of a part come to, from the top on.
-pub fn gather(table: &[u16], records: &[u8], stack: &[usize], part: Part) -> Counted
-    requires { ⌜ Few (now records) × Stack (part .lo) (part .hi) (now stack) ⌝ }
-    ensures { λ r. ⌜ GatherIs (now (table .entry)) (now (records .entry)) (now (stack .entry)) (part .lo) (part .hi) (part .stuck) r ⌝ }
+/// What the layers of a part come to, from the top on; the objects that count are pushed above the part, the last written first.
+pub fn gather(table: &[u16], records: &[u8], work: &mut [u16], part: Part) -> Taken
+    requires { ⌜ Few (now records) × Stack (part .lo) (part .hi) (now work) ⌝ }
+    ensures { λ r. ⌜ GatherIs (now (table .entry)) (now (records .entry)) (part .lo) (part .hi) (part .stuck) (now (work .entry))
+        (now (work .exit)) r ⌝ }
 {
     let lo = part.lo;
     let hi = part.hi;
     let stuck = part.stuck;
     let mut i = hi;
+    let mut top = hi;
     while lo < i {
-        let layer = stack[i - 1];
+        let layer = code_at(work, i - 1);
         match eval_members::view_of(table, records, layer) {
             View::Other => {
-                return of_other(layer, hi - i);
+                return of_other(layer, hi, top);
             }
             View::Object { first, end } => {
+                top = push(work, top, layer);
                 i -= 1;
             }
         }
     }
-    of_end(stuck, hi - lo)
+    of_end(stuck, hi, top)
 }

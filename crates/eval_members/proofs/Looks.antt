@@ -1,8 +1,8 @@
 -- One law for each answer of the functions that look at the tables.
-use mathlib.Core.Path.{_≡_, refl, sym, _∙_}
+use mathlib.Core.Path.{_≡_, refl, sym, ap, _∙_}
 use mathlib.Core.List.{List}
 use mathlib.Core.Option.{Option, none}
-use Prim.Native.Nat.{ℕ, _+_, _*_, _-_, _≤_, _<_}
+use Prim.Native.Nat.{ℕ, _+_, _*_, _-_, _%_, _≤_, _<_}
 use native.Mathlib.Omega.{arith}
 use mir.Syntax.{w64}
 use mir.Val.{Fits}
@@ -15,16 +15,27 @@ use Rattle.sheet_kinds.specs.Contracts.{EndIs}
 use Rattle.sheet_kinds.specs.Ends.{some-is, none-is, between-is}
 use Rattle.sheet_kinds.specs.declared.End.{End}
 use Rattle.text_chars.specs.declared.RecAt.{RecAt}
-use Rattle.doc_items.specs.Room.{capacity}
+use Rattle.doc_items.specs.Room.{capacity, answersAt}
 use Rattle.doc_items.specs.Writing.{ReadIs}
-use Rattle.eval_members.specs.Model.{answersAt, answeredAt, itemView, recordView, viewAt, itemMember, recordMember, memberAt}
-use Rattle.eval_members.specs.Contracts.{AnsweredIs, ViewIs, ItemViewIs, RecordViewIs, ItemMemberIs, RecordMemberIs, MemberIs}
+use Rattle.eval_members.specs.Model.{answerBound, answerAt, answeredAt, itemView, recordView, viewAt, itemMember, recordMember, memberAt}
+use Rattle.eval_members.specs.Contracts.{AnswerIs, AnsweredIs, ViewIs, ItemViewIs, RecordViewIs, ItemMemberIs, RecordMemberIs, MemberIs}
 use Rattle.eval_answers.specs.Model.{answered}
 use Rattle.eval_answers.specs.declared.Answered.{Answered}
 use Rattle.eval_members.specs.declared.View.{View}
 use Rattle.eval_members.specs.declared.Member.{Member}
 
 -- ---- a node as a layer
+
+module _ {T : List ℕ} {b a : ℕ} (x : ReadIs T (answersAt + b) a) where
+  pub answer-there : a < answerBound → AnswerIs T b a
+  unfolding answerAt
+  answer-there l = record { is = rw (← (x .is), lt-ltb a answerBound l, answerAt) refl; small = x .small }
+
+  pub answer-none : answerBound ≤ a → AnswerIs T b 0
+  unfolding answerAt
+  answer-none l = record { is = rw (← (x .is), le-ltb a answerBound l, answerAt) refl; small = omega arith }
+
+pub ruleset answers = (answer-there, answer-none)
 
 module _ {T : List ℕ} {c : ℕ} where
   pub shown-record : capacity ≤ c → AnsweredIs T c (Answered.Layer c)
@@ -36,7 +47,7 @@ module _ {T : List ℕ} {c : ℕ} where
     unfolding answeredAt
     shown-plain i = record { is = rw (lt-ltb c capacity h, ne-eqb (getD T (8 * c) 0) 8 (λ q. i (x .is ∙ q)), answeredAt) refl }
 
-    pub shown-unresolved : {b a : ℕ} {r : Answered} → k ≡ 8 → ReadIs T (8 * c + 7) b → ReadIs T (answersAt + b) a → r ≡ answered b a → AnsweredIs T c r
+    pub shown-unresolved : {b a : ℕ} {r : Answered} → k ≡ 8 → ReadIs T (8 * c + 7) b → AnswerIs T b a → r ≡ answered b a → AnsweredIs T c r
     unfolding answeredAt
     shown-unresolved i y z e = record {
       is = e ∙ rw (lt-ltb c capacity h, eq-eqb (getD T (8 * c) 0) 8 (sym (x .is) ∙ i), ← (y .is), ← (z .is), answeredAt) refl;
@@ -47,13 +58,13 @@ pub ruleset showns = (shown-record, shown-plain, shown-unresolved)
 -- ---- objects
 
 module _ {T : List ℕ} {c k : ℕ} (x : ReadIs T (8 * c) k) where
-  pub item-object : {z : ℕ} → k ≡ 7 → ReadIs T (8 * c + 1) z → ItemViewIs T c (View.Object (c + 1) (c + z))
+  pub item-object : {z : ℕ} → k % 16 ≡ 7 → ReadIs T (8 * c + 1) z → ItemViewIs T c (View.Object (c + 1) (c + z))
   unfolding itemView
-  item-object e y = record { is = rw (eq-eqb (getD T (8 * c) 0) 7 (sym (x .is) ∙ e), y .is, itemView) refl }
+  item-object e y = record { is = rw (eq-eqb (getD T (8 * c) 0 % 16) 7 (ap (λ (n : ℕ). n % 16) (sym (x .is)) ∙ e), y .is, itemView) refl }
 
-  pub item-other : (k ≡ 7 → ⊥) → ItemViewIs T c View.Other
+  pub item-other : (k % 16 ≡ 7 → ⊥) → ItemViewIs T c View.Other
   unfolding itemView
-  item-other i = record { is = rw (ne-eqb (getD T (8 * c) 0) 7 (λ q. i (x .is ∙ q)), itemView) refl }
+  item-other i = record { is = rw (ne-eqb (getD T (8 * c) 0 % 16) 7 (λ q. i (ap (λ (n : ℕ). n % 16) (x .is) ∙ q)), itemView) refl }
 
 pub ruleset item-views = (item-object, item-other)
 

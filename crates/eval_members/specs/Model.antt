@@ -1,45 +1,43 @@
--- What a job's tables show. A layer is a number: an item of the document is its index, a value of the trail is the offset of its record
--- and the capacity more. The table has the items, the index of the unresolved values and behind it their answers; the texts are the
--- document's and behind them the sheet's; the records are the trail's.
-use Prim.Native.Nat.{ℕ, _+_, _*_, _-_}
+-- What a job's tables show. A layer is a number: an item of the document is its index, a finished value is the offset of its record and
+-- the capacity more. The table T has the items, the index of the unresolved values, behind it their answers and the numbers of the keys; the
+-- records R are those of finished values, as kept.
+use Prim.Native.Nat.{ℕ, zero, suc, _+_, _*_, _-_, _%_}
 use mathlib.Core.Bool.{cond}
-use mathlib.Core.List.{List}
+use mathlib.Core.List.{List, [], _∷_}
 use mathlib.Core.Option.{Option, none, some}
 use lib.Dec.{ltb, leb, eqb}
 use lib.ListN.{getD}
-use lib.Seq.{slice}
-use Rattle.rules.specs.Sizes.{maxNesting, maxDocument, maxRoom}
-use Rattle.rules.specs.Bytes.{Text, byteAt}
+use Rattle.rules.specs.Sizes.{maxNesting, maxRoom}
+use Rattle.rules.specs.Bytes.{byteAt}
 use Rattle.rules.specs.Sheet.{pairAt}
 use Rattle.rules.specs.LookUp.{afterValue}
-use Rattle.doc_items.specs.Room.{capacity, tableRoom}
+use Rattle.doc_items.specs.Room.{capacity, answersAt}
+use Rattle.eval_keys.specs.Columns.{keysAt}
 use Rattle.eval_answers.specs.Model.{answered}
 use Rattle.eval_answers.specs.declared.Answered.{Answered}
 use Rattle.eval_members.specs.declared.View.{View}
 use Rattle.eval_members.specs.declared.Member.{Member}
-use Rattle.eval_members.specs.declared.Key.{Key}
-
--- ---- where what stands
-
--- the answers of the unresolved values, by their numbers: 0 none yet, 1 undefined, else the offset of its record in the trail and 2 more
-abbrev pub answersAt : ℕ
-answersAt = tableRoom
-
--- the sheet's texts, behind the document's
-abbrev pub sheetAt : ℕ
-sheetAt = 2 * maxDocument
 
 -- ---- an unresolved value is its answer
 
+-- an answer's record begins inside the room of the answers; another number is none yet
+abbrev pub answerBound : ℕ
+answerBound = maxRoom + 2
+
+unfoldable pub answerAt : List ℕ → ℕ → ℕ
+answerAt T b = cond (ltb (getD T (answersAt + b) 0) answerBound) (getD T (answersAt + b) 0) 0
+
 unfoldable pub answeredAt : List ℕ → ℕ → Answered
+unfolding answerAt
 answeredAt T c =
-    cond (ltb c capacity) (cond (eqb (getD T (8 * c) 0) 8) (answered (getD T (8 * c + 7) 0) (getD T (answersAt + getD T (8 * c + 7) 0) 0)) (Answered.Layer c))
+    cond (ltb c capacity) (cond (eqb (getD T (8 * c) 0) 8) (answered (getD T (8 * c + 7) 0) (answerAt T (getD T (8 * c + 7) 0))) (Answered.Layer c))
     (Answered.Layer c)
 
 -- ---- an object and its members
 
+-- an object that is a member or a piece
 unfoldable pub itemView : List ℕ → ℕ → View
-itemView T c = cond (eqb (getD T (8 * c) 0) 7) (View.Object (c + 1) (c + getD T (8 * c + 1) 0)) View.Other
+itemView T c = cond (eqb (getD T (8 * c) 0 % 16) 7) (View.Object (c + 1) (c + getD T (8 * c + 1) 0)) View.Other
 
 abbrev pub endView : ℕ → Option ℕ → View
 endView o none = View.Other
@@ -74,21 +72,33 @@ memberAt T R p e =
     cond (leb e p) Member.End
     (cond (ltb p capacity) (itemMember T p) (cond (leb (p - capacity) maxRoom) (recordMember R (p - capacity)) Member.End))
 
--- ---- a member's key, by its number
+-- ---- the number of a member's key
 
-abbrev pub keyOf : ℕ → ℕ → Key
-keyOf a n = record { at = record { 0 = a }; len = record { 0 = n } }
+-- any number may be held; 0 is no key's
+unfoldable pub keyNumber : ℕ → ℕ
+keyNumber k = cond (ltb k capacity) k 0
 
 -- the key's record is the one before the value's
-unfoldable pub recordKey : List ℕ → ℕ → Key
+unfoldable pub recordKey : List ℕ → ℕ → ℕ
 unfolding pairAt
-recordKey R o =
-    cond (ltb o 5) (keyOf 0 0)
-    (cond (ltb maxRoom o) (keyOf 0 0) (keyOf (sheetAt + pairAt R (o - 4)) (pairAt R (o - 2))))
+recordKey R o = cond (ltb o 5) 0 (cond (ltb maxRoom o) 0 (pairAt R (o - 4)))
 
-unfoldable pub keyAt : List ℕ → List ℕ → ℕ → Key
-unfolding recordKey
-keyAt T R c = cond (ltb c capacity) (keyOf (getD T (8 * c + 2) 0) (getD T (8 * c + 3) 0)) (recordKey R (c - capacity))
+unfoldable pub keyAt : List ℕ → List ℕ → ℕ → ℕ
+unfolding keyNumber recordKey
+keyAt T R c = keyNumber (cond (ltb c capacity) (getD T (keysAt + c) 0) (recordKey R (c - capacity)))
 
-unfoldable pub textOf : List ℕ → Key → Text
-textOf X k = slice (k .at .0) (k .at .0 + k .len .0) X
+-- ---- the members of an object, by their numbers
+
+abbrev pub membersBy : (ℕ → List ℕ) → Member → List ℕ
+membersBy go Member.End = []
+membersBy go (Member.Seam q) = go q
+membersBy go (Member.At c q) = c ∷ go q
+
+unfoldable pub membersN : ℕ → List ℕ → List ℕ → ℕ → ℕ → List ℕ
+unfolding memberAt
+membersN zero T R p e = []
+membersN (suc n) T R p e = membersBy (λ q. membersN n T R q e) (memberAt T R p e)
+
+unfoldable pub membersOf : List ℕ → List ℕ → ℕ → ℕ → List ℕ
+unfolding membersN
+membersOf T R p e = membersN (e - p) T R p e

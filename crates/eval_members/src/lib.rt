@@ -1,26 +1,21 @@
-// What a job's tables show of a layer, which is a number: an item of the document by its index, or a value of the trail by the offset of
-// its record and the capacity more. This crate, and `eval_answers` below it, alone pack such a number and take it apart; to all others it is
-// only a number. Whatever the tables hold, each look ends with an answer.
+// What a job's tables show of a layer, which is a number: an item of the document by its index, or a finished value by the offset of
+// its record and the capacity more. Finished values stand as kept: a key's record has the key's number. This crate, and `eval_answers`
+// below it, alone pack a layer's number and take it apart; to all others it is only a number. Whatever the tables hold, each look ends
+// with an answer, and each number fits the stack's entries.
 // Computes: Layers (by the model in specs/Model)
 use codes::limits;
-use doc_items::COLUMN_KEY;
-use doc_items::COLUMN_KEYLEN;
 use doc_items::COLUMN_NUMBER;
 use doc_items::COLUMN_SIZE;
 use doc_items::WIDTH;
 use eval_answers::Answered;
 use sheet_kinds::End;
 use text_chars::RecAt;
-use text_chars::TextAt;
 use text_chars::TextLen;
-ghost use mathlib.Core.Path.{_≡_};
-ghost use Prim.Native.Nat.{_≤_, _<_, min};
-ghost use lib.ListN.{length};
+ghost use Prim.Native.Nat.{_≤_, _<_};
 ghost use Rattle.rules.specs.Sizes.{maxRoom};
-ghost use Rattle.sheet_texts.specs.Contracts.{jobTexts};
-ghost use Rattle.doc_items.specs.Room.{capacity};
-ghost use Rattle.eval_members.specs.Contracts.{Few, Near, AnsweredIs, ViewIs, ItemViewIs, RecordViewIs};
-ghost use Rattle.eval_members.specs.Contracts.{ItemMemberIs, RecordMemberIs, MemberIs, RecordKeyIs, KeyIs, SameIs};
+ghost use Rattle.doc_items.specs.Room.{capacity, numberBound};
+ghost use Rattle.eval_members.specs.Contracts.{Few, AnswerIs, AnsweredIs, ViewIs, ItemViewIs, RecordViewIs};
+ghost use Rattle.eval_members.specs.Contracts.{ItemMemberIs, RecordMemberIs, MemberIs, RecordKeyIs, NumberIs, KeyIs};
 
 /// What a layer is to a path.
 pub enum View {
@@ -40,10 +35,27 @@ pub enum Member {
     At { layer: usize, next: usize },
 }
 
-/// Where a key's text stands.
-pub struct Key {
-    pub at: TextAt,
-    pub len: TextLen,
+// How many bytes the record of an object has before its members, and a key's record before its value; and how far before the value the
+// key's number stands.
+const HEAD: usize = 3;
+
+const KEY_RECORD: usize = 5;
+
+const KEY_NUMBER: usize = 4;
+
+// The numbers that an answer may have in the table: its record begins inside the answers' room.
+const ANSWER_BOUND: usize = limits::ROOM + 2;
+
+// What the table has of an answer; a number that is no answer's is none yet.
+fn answer_at(table: &[u16], b: usize) -> usize
+    requires { ⌜ b < numberBound ⌝ }
+    ensures { λ r. ⌜ AnswerIs (now (table .entry)) b r ⌝ }
+{
+    let a = doc_items::number_at(table, doc_items::ANSWERS + b);
+    if a < ANSWER_BOUND {
+        return a;
+    }
+    0
 }
 
 /// What a node's number shows.
@@ -53,18 +65,20 @@ pub fn layer_of(table: &[u16], layer: usize) -> Answered
     if layer < doc_items::CAPACITY {
         if doc_items::number_at(table, WIDTH * layer) == doc_items::UNRESOLVED {
             let b = doc_items::number_at(table, WIDTH * layer + COLUMN_NUMBER);
-            let a = doc_items::number_at(table, doc_items::ANSWERS + b);
+            let a = answer_at(table, b);
             return eval_answers::answer_of(b, a);
         }
     }
     Answered::Layer(layer)
 }
 
+// A member or a piece: the kind of an object that is a piece is so much more.
 fn item_view(table: &[u16], layer: usize) -> View
     requires { ⌜ layer < capacity ⌝ }
     ensures { λ r. ⌜ ItemViewIs (now (table .entry)) layer r ⌝ }
 {
-    if doc_items::number_at(table, WIDTH * layer) == doc_items::OBJECT {
+    let kind = doc_items::number_at(table, WIDTH * layer);
+    if kind % doc_items::PIECE == doc_items::OBJECT {
         let size = doc_items::number_at(table, WIDTH * layer + COLUMN_SIZE);
         return View::Object {
             first: layer + 1,
@@ -82,7 +96,7 @@ fn record_view(records: &[u8], o: usize) -> View
         match sheet_records::value_end(records, TextLen(limits::ROOM), RecAt(o), limits::NESTING) {
             End::At(end) => {
                 return View::Object {
-                    first: doc_items::CAPACITY + (o + 3),
+                    first: doc_items::CAPACITY + (o + HEAD),
                     end: doc_items::CAPACITY + end.0,
                 };
             }
@@ -133,7 +147,7 @@ fn record_member(records: &[u8], o: usize) -> Member
     match sheet_records::value_end(
         records,
         TextLen(limits::ROOM),
-        RecAt(o + 5),
+        RecAt(o + KEY_RECORD),
         limits::NESTING,
     ) {
         End::Nowhere => Member::End,
@@ -143,7 +157,7 @@ fn record_member(records: &[u8], o: usize) -> Member
                 return Member::End;
             }
             Member::At {
-                layer: doc_items::CAPACITY + (o + 5),
+                layer: doc_items::CAPACITY + (o + KEY_RECORD),
                 next: doc_items::CAPACITY + q,
             }
         }
@@ -168,63 +182,34 @@ pub fn member_at(table: &[u16], records: &[u8], p: usize, e: usize) -> Member
     Member::End
 }
 
-fn record_key(records: &[u8], o: usize) -> Key
+// The two bytes behind a key record's kind: in a record as kept they are the key's number.
+fn record_key(records: &[u8], o: usize) -> usize
     requires { ⌜ Few (now records) ⌝ }
     ensures { λ r. ⌜ RecordKeyIs (now (records .entry)) o r ⌝ }
 {
-    if o < 5 {
-        return Key {
-            at: TextAt(0),
-            len: TextLen(0),
-        };
+    if o < KEY_RECORD {
+        return 0;
     }
     if limits::ROOM < o {
-        return Key {
-            at: TextAt(0),
-            len: TextLen(0),
-        };
+        return 0;
     }
-    let offset = sheet_kinds::pair_at(records, RecAt(o - 4));
-    let len = sheet_kinds::pair_at(records, RecAt(o - 2));
-    Key {
-        at: TextAt(doc_items::SHEET + offset),
-        len: TextLen(len),
-    }
+    sheet_kinds::pair_at(records, RecAt(o - KEY_NUMBER))
 }
 
-/// The key of a member.
-pub fn key_of(table: &[u16], records: &[u8], layer: usize) -> Key
+// A key number, or 0, which is no key's: what is held may be any number.
+fn key_number(k: usize) -> usize
+    ensures { λ r. ⌜ NumberIs k r ⌝ }
+{
+    if k < doc_items::CAPACITY { k } else { 0 }
+}
+
+/// The number of a member's key.
+pub fn key_of(table: &[u16], records: &[u8], layer: usize) -> usize
     requires { ⌜ Few (now records) ⌝ }
     ensures { λ r. ⌜ KeyIs (now (table .entry)) (now (records .entry)) layer r ⌝ }
 {
     if layer < doc_items::CAPACITY {
-        let at = doc_items::number_at(table, WIDTH * layer + COLUMN_KEY);
-        let len = doc_items::number_at(table, WIDTH * layer + COLUMN_KEYLEN);
-        return Key {
-            at: TextAt(at),
-            len: TextLen(len),
-        };
+        return key_number(doc_items::number_at(table, eval_keys::KEYS + layer));
     }
-    record_key(records, layer - doc_items::CAPACITY)
-}
-
-// The lesser of two numbers.
-fn least(a: usize, b: usize) -> usize
-    ensures { λ r. ⌜ r ≡ min a b ⌝ }
-{
-    if a < b { a } else { b }
-}
-
-/// Whether two keys have the same text.
-pub fn same_key(texts: &[u8], j: Key, k: Key) -> bool
-    requires { ⌜ (length (now texts) ≤ jobTexts) × Near j × Near k ⌝ }
-    ensures { λ r. ⌜ SameIs (now (texts .entry)) j k r ⌝ }
-{
-    let at = k.at;
-    let len = k.len;
-    let a = least(at.0, texts.len());
-    let e = least(at.0 + len.0, texts.len());
-    let from = j.at;
-    let size = j.len;
-    sheet_texts::same_text(texts, from, size, &texts[a..e])
+    key_number(record_key(records, layer - doc_items::CAPACITY))
 }

@@ -1,56 +1,31 @@
--- The elements of a path as keys, and the layers along it.
+-- The layers one key deeper, and along a path.
 use mathlib.Core.Path.{_≡_, refl, sym, ap, _∙_}
 use mathlib.Core.List.{List}
-use Prim.Native.Nat.{ℕ, suc, _+_, _*_, _-_, _≤_, _<_}
+use Prim.Native.Nat.{ℕ, suc, _+_, _-_, _≤_, _<_}
 use native.Mathlib.Omega.{arith}
-use lib.ListN.{length}
-use borrow.Author.Tests.{eq-eqb, ne-eqb}
-use Rattle.sheet_kinds.specs.Contracts.{PairIs}
-use Rattle.eval_members.specs.Model.{keyOf}
-use Rattle.eval_members.specs.declared.Key.{Key}
-use Rattle.eval_layers.specs.Model.{seg, deeperC}
-use Rattle.eval_layers.specs.Contracts.{Same, DeeperIs}
-use Rattle.eval_paths.specs.Model.{beginsAt, BeginsIs, Close, pathKey, PathKeyIs, parted, onwardC, walkPathC, PartIs, WalkPathIs}
+use lib.ListN.{length, getD}
+use Rattle.doc_items.specs.Writing.{ReadIs}
+use Rattle.eval_stack.specs.Model.{entries, Work, seg, seg-length}
+use Rattle.eval_stack.specs.Contracts.{Same}
+use Rattle.eval_stack.specs.Pushes.{same-lower}
+use Rattle.eval_layers.specs.Model.{deeperC}
+use Rattle.eval_layers.specs.Contracts.{DeeperIs}
 use Rattle.eval_layers.specs.declared.Walked.{Walked}
-use Rattle.eval_paths.specs.declared.Route.{Route}
 use Rattle.eval_layers.specs.declared.Part.{Part}
-use Rattle.eval_layers.specs.Model.{seg-length}
+use Rattle.eval_paths.specs.Model.{parted, onwardC, walkPathC, PartIs, WalkPathIs}
 
--- ---- elements
+-- ---- one key
 
-module _ {X : List ℕ} {ends i : ℕ} where
-  pub begins-first : i ≡ 0 → BeginsIs X ends i 0
-  unfolding beginsAt
-  begins-first e = record { is = rw (eq-eqb i 0 e, beginsAt) refl; small = omega arith }
-
-  pub begins-later : {r : ℕ} → (i ≡ 0 → ⊥) → PairIs X (ends + 2 * (i - 1)) r → BeginsIs X ends i r
-  unfolding beginsAt
-  begins-later e t = record { is = t .is ∙ rw (ne-eqb i 0 e, beginsAt) refl; small = t .small }
-
-pub ruleset beginnings = (begins-first, begins-later)
-
-module _ {X : List ℕ} (x : Route) {i : ℕ} where
-  pub key-of-path : {f t n : ℕ} → Close x → BeginsIs X (x .at .0 + x .len .0) i f → PairIs X (x .at .0 + x .len .0 + 2 * i) t → n ≡ t - f
-      → PathKeyIs X x i (keyOf (x .at .0 + f) n)
-  unfolding pathKey
-  key-of-path c a b e = record {
-    is = rw (e, a .is, b .is, pathKey) refl;
-    near = (omega (arith, c .0, a .small), omega (arith, b .small));
-  }
-
--- ---- one key, and all
-
-module _ {T R X : List ℕ} (p : Part) {k : Key} {s s′ : List ℕ} {w : Walked} (h : DeeperIs T R X (p .lo) (p .hi) (p .stuck) (p .hi) k s s′ w) where
-  pub onward-is : p .lo ≤ p .hi → p .hi ≤ length s
-      → PartIs s (p .hi) s′ (record { lo = p .hi; hi = w .top; stuck = w .stuck }) (onwardC T R X k (parted s p))
+module _ {T R : List ℕ} (p : Part) {k : ℕ} {w w′ : List ℕ} {walk : Walked} (h : DeeperIs T R (p .lo) (p .hi) (p .stuck) (p .hi) k w w′ walk) where
+  pub onward-is : p .lo ≤ p .hi → p .hi ≤ entries
+      → PartIs w (p .hi) w′ (record { lo = p .hi; hi = walk .top; stuck = walk .stuck }) (onwardC T R k (parted w p))
   unfolding onwardC
   onward-is l m =
-      let n : length s - p .lo - length (seg s (p .lo) (p .hi - p .lo)) ≡ length s - p .hi = omega (arith, seg-length s (p .lo) (p .hi - p .lo)) in
-      let r : length s′ - p .hi ≡ length s - p .hi = ap (λ (z : ℕ). z - p .hi) (h .is .len) in
+      let n : entries - p .lo - length (seg w (p .lo) (p .hi - p .lo)) ≡ entries - p .hi = omega (arith, seg-length w (p .lo) (p .hi - p .lo)) in
       record {
         is =
-            (λ i. record { room = r i; layers = h .is .is i .0; stuck = h .is .is i .1 })
-            ∙ sym (ap (λ (z : ℕ). let v = deeperC T R X k z (seg s (p .lo) (p .hi - p .lo)) (p .stuck) in
+            (λ i. record { room = entries - p .hi; layers = h .is .is i .0; stuck = h .is .is i .1 })
+            ∙ sym (ap (λ (z : ℕ). let v = deeperC T R k z (seg w (p .lo) (p .hi - p .lo)) (p .stuck) in
             record { room = z; layers = v .0; stuck = v .1 }) n);
         same = h .is .same;
         low = h .is .low;
@@ -59,51 +34,57 @@ module _ {T R X : List ℕ} (p : Part) {k : Key} {s s′ : List ℕ} {w : Walked
         len = h .is .len;
       }
 
+-- ---- all
+
 -- what is left of the path gives what all of it gives
-pub record WalkInv (T R X s₀ : List ℕ) (a : Part) (x : Route) (from : ℕ) (s : List ℕ) (i : ℕ) (p : Part) : Type 0 where
-  pub is : walkPathC T R X x (x .count - i) i (parted s p) ≡ walkPathC T R X x (x .count - from) from (parted s₀ a)
-  pub same : Same (a .hi) s₀ s
+pub record WalkInv (T R K w₀ : List ℕ) (a : Part) (count from : ℕ) (w : List ℕ) (i : ℕ) (p : Part) : Type 0 where
+  pub is : walkPathC T R K (count - i) i (parted w p) ≡ walkPathC T R K (count - from) from (parted w₀ a)
+  pub same : Same (a .hi) w₀ w
   pub low : p .lo ≤ p .hi
   pub above : a .hi ≤ p .hi
-  pub high : p .hi ≤ length s
-  pub len : length s ≡ length s₀
+  pub high : p .hi ≤ entries
+  pub len : length w ≡ length w₀
+  pub work : Work w
 
-pub walk-start : {T R X s : List ℕ} {a : Part} {x : Route} {from : ℕ} → a .lo ≤ a .hi → a .hi ≤ length s → WalkInv T R X s a x from s from a
-walk-start l h = record { is = refl; same = λ j z. refl; low = l; above = omega arith; high = h; len = refl }
+pub walk-start : {T R K w : List ℕ} {a : Part} {count from : ℕ} → a .lo ≤ a .hi → a .hi ≤ entries → Work w → WalkInv T R K w a count from w from a
+walk-start l h k = record { is = refl; same = λ j o. refl; low = l; above = omega arith; high = h; len = refl; work = k }
 
-module _ {T R X s₀ : List ℕ} {a : Part} {x : Route} {from : ℕ} {s : List ℕ} {i : ℕ} {p : Part} (I : WalkInv T R X s₀ a x from s i p) where
+module _ {T R K w₀ : List ℕ} {a : Part} {count from : ℕ} {w : List ℕ} {i : ℕ} {p : Part} (I : WalkInv T R K w₀ a count from w i p) where
   pub walk-low : p .lo ≤ p .hi
   walk-low = I .low
 
-  pub walk-high : p .hi ≤ length s
+  pub walk-high : p .hi ≤ entries
   walk-high = I .high
 
-  pub walk-again : {k : Key} {s′ : List ℕ} {q : Part} → i < x .count → PathKeyIs X x i k
-      → PartIs s (p .hi) s′ q (onwardC T R X k (parted s p)) → WalkInv T R X s₀ a x from s′ (i + 1) q
+  pub walk-work : Work w
+  walk-work = I .work
+
+  pub walk-again : {k : ℕ} {w′ : List ℕ} {q : Part} → i < count → ReadIs K i k → PartIs w (p .hi) w′ q (onwardC T R k (parted w p))
+      → WalkInv T R K w₀ a count from w′ (i + 1) q
   unfolding walkPathC
-  walk-again {k} {s′} {q} l e g =
-      let n : x .count - i ≡ suc (x .count - (i + 1)) = omega arith in
+  walk-again {k} {w′} {q} l e g =
+      let n : count - i ≡ suc (count - (i + 1)) = omega arith in
       let m : suc i ≡ i + 1 = omega arith in
-      let u = I .above in
       record {
         is =
-            ap (walkPathC T R X x (x .count - (i + 1)) (i + 1)) (g .is ∙ ap (λ (j : Key). onwardC T R X j (parted s p)) (e .is))
-            ∙ ap (λ (j : ℕ). walkPathC T R X x (x .count - (i + 1)) j (onwardC T R X (pathKey X x i) (parted s p))) (sym m)
-            ∙ sym (ap (λ (z : ℕ). walkPathC T R X x z i (parted s p)) n) ∙ I .is;
-        same = λ j z. g .same j (omega arith) ∙ I .same j z;
+            ap (walkPathC T R K (count - (i + 1)) (i + 1)) (g .is ∙ ap (λ (j : ℕ). onwardC T R j (parted w p)) (e .is))
+            ∙ ap (λ (j : ℕ). walkPathC T R K (count - (i + 1)) j (onwardC T R (getD K i 0) (parted w p))) (sym m)
+            ∙ sym (ap (λ (z : ℕ). walkPathC T R K z i (parted w p)) n) ∙ I .is;
+        same = λ j o. same-lower w w′ (g .same) (a .hi) (I .above) j o ∙ I .same j o;
         low = g .low;
-        above = omega (arith, g .above);
+        above = omega (arith, g .above, I .above);
         high = g .high;
         len = g .len ∙ I .len;
+        work = omega (arith, g .len, I .work);
       }
 
-  pub walk-done : x .count ≤ i → WalkPathIs T R X s₀ a x from s p
+  pub walk-done : count ≤ i → WalkPathIs T R K w₀ a count from w p
   unfolding walkPathC
   walk-done l =
-      let z : x .count - i ≡ 0 = omega arith in
+      let z : count - i ≡ 0 = omega arith in
       record {
         is = record {
-          is = sym (ap (λ (n : ℕ). walkPathC T R X x n i (parted s p)) z) ∙ I .is;
+          is = sym (ap (λ (n : ℕ). walkPathC T R K n i (parted w p)) z) ∙ I .is;
           same = I .same;
           low = I .low;
           above = I .above;
@@ -112,4 +93,4 @@ module _ {T R X s₀ : List ℕ} {a : Part} {x : Route} {from : ℕ} {s : List �
         };
       }
 
-pub ruleset walks = (walk-start, walk-low, walk-high, walk-again, walk-done)
+pub ruleset walks = (walk-start, walk-low, walk-high, walk-work, walk-again, walk-done)

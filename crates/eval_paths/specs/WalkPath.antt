@@ -1,48 +1,53 @@
 -- Numbers that show layers give, along a path, numbers that show the layers along it.
-use Prim.Native.Nat.{ℕ, zero, suc, _-_, _≤_}
+use mathlib.Core.Path.{_≡_, subst, sym}
+use Prim.Native.Nat.{ℕ, zero, suc, _+_, _-_, _≤_}
 use mathlib.Core.List.{List, [], _∷_}
 use mathlib.Core.Option.{Option}
 use native.Mathlib.Omega.{arith}
-use lib.ListN.{length}
+use lib.ListN.{length, getD}
 use Rattle.rules.specs.Bytes.{Text}
 use Rattle.rules.specs.Values.{Answer}
 use Rattle.rules.specs.Settled.{Settled, deeperOf, deeperIn, walkIn}
-use Rattle.theory.specs.Room.{deeper-weighs}
 use Rattle.rules.specs.Weights.{weigh}
-use Rattle.eval_members.specs.Model.{textOf}
-use Rattle.eval_members.specs.declared.Key.{Key}
-use Rattle.eval_paths.specs.declared.Route.{Route}
+use Rattle.theory.specs.Room.{deeper-weighs}
+use Rattle.eval_keys.specs.Numbers.{numberOf}
+use Rattle.eval_routes.specs.Elements.{KeysOf}
+use Rattle.eval_tables.specs.Keys.{Means, number-means}
+use Rattle.eval_tables.specs.Finished.{Memory}
+use Rattle.eval_tables.specs.Tables.{Tables, Match, match-length}
 use Rattle.eval_layers.specs.Model.{deeperC}
-use Rattle.eval_paths.specs.Model.{pathKey, Layered, onwardC, walkPathC}
-use Rattle.eval_layers.specs.Tables.{Ended, Tables, Match, match-length}
+use Rattle.eval_layers.specs.Shows.{Ended}
 use Rattle.eval_layers.specs.Deeper.{deeper-shows}
+use Rattle.eval_paths.specs.Model.{Layered, onwardC, walkPathC}
 
--- the texts of so many elements of a path, from one on
-unfoldable pub elementTexts : List ℕ → Route → ℕ → ℕ → List Text
-unfolding textOf pathKey
-elementTexts X x zero i = []
-elementTexts X x (suc n) i = textOf X (pathKey X x i) ∷ elementTexts X x n (suc i)
-
-module _ (T R X W : List ℕ) (hi : ℕ) (known : ℕ → Option Answer) where
+module _ (M : Memory) (known : ℕ → Option Answer) where
   -- numbers that show layers, with room for what the layers weigh
   pub record Roomy (a : Layered) (s : Settled) : Type 0 where
-    pub layers : Match T R X W hi (a .layers) (s .0)
+    pub layers : Match M (a .layers) (s .0)
     pub stuck : Ended (a .stuck) (s .1)
     pub room : weigh known (s .0) ≤ a .room
 
-  module _ (tables : Tables T R X W hi known) where
-    pub onward-shows : (k : Key) (a : Layered) (s : Settled) → Roomy a s → Roomy (onwardC T R X k a) (deeperOf known (textOf X k) s)
+  module _ (tables : Tables M known) where
+    -- k stands for the text t
+    pub onward-shows : (k : ℕ) (t : Text) → Means (M .key) (M .table) (M .items) k t → (a : Layered) (s : Settled) → Roomy a s
+        → Roomy (onwardC (M .table) (M .records) k a) (deeperOf known t s)
     unfolding onwardC deeperC deeperIn
-    onward-shows k a s m =
+    onward-shows k t means a s m =
         let r = a .room - length (a .layers) in
-        let e = match-length T R X W hi (a .layers) (s .0) (m .layers) in
-        let w = deeper-shows T R X W hi known tables k r (a .layers) (s .0) (a .stuck) (s .1) (m .layers) (m .stuck) (omega (arith, m .room)) in
-        record { layers = w .0; stuck = w .1; room = omega (arith, m .room, deeper-weighs known (textOf X k) (s .0) (s .1)) }
+        let e = match-length M (a .layers) (s .0) (m .layers) in
+        let w = deeper-shows M known tables k t means r (a .layers) (s .0) (a .stuck) (s .1) (m .layers) (m .stuck) (omega (arith, m .room)) in
+        record { layers = w .0; stuck = w .1; room = omega (arith, m .room, deeper-weighs known t (s .0) (s .1)) }
 
-    pub walk-shows : (x : Route) (n i : ℕ) (a : Layered) (s : Settled) → Roomy a s
-        → Roomy (walkPathC T R X x n i a) (walkIn known (elementTexts X x n i) s)
-    unfolding walkPathC walkIn elementTexts
-    walk-shows x zero i a s m = m
-    walk-shows x (suc n) i a s m =
-        let k = pathKey X x i in
-        walk-shows x n (suc i) (onwardC T R X k a) (deeperOf known (textOf X k) s) (onward-shows k a s m)
+    -- the numbers of K from i on are those of the texts ts
+    pub walk-shows : (K : List ℕ) (ts : List Text) (i n : ℕ) → n ≡ length ts → KeysOf (numberOf (M .bytes) (M .table) (M .items)) K i ts
+        → (a : Layered) (s : Settled) → Roomy a s → Roomy (walkPathC (M .table) (M .records) K n i a) (walkIn known ts s)
+    unfolding walkPathC walkIn
+    walk-shows K [] i zero e k a s m = m
+    walk-shows K [] i (suc n) e k a s m = absurd (omega arith)
+    walk-shows K (t ∷ ts) i zero e k a s m = absurd (omega arith)
+    walk-shows K (t ∷ ts) i (suc n) e k a s m =
+        let z : i + 1 ≡ suc i = omega arith in
+        let means : Means (M .key) (M .table) (M .items) (getD K i 0) t =
+        subst (λ (j : ℕ). Means (M .key) (M .table) (M .items) j t) (sym (k .0)) (number-means (tables .stored .numbered) (tables .stored .names) t) in
+        walk-shows K ts (suc i) n (omega arith) (subst (λ (j : ℕ). KeysOf (numberOf (M .bytes) (M .table) (M .items)) K j ts) z (k .1))
+        (onwardC (M .table) (M .records) (getD K i 0) a) (deeperOf known t s) (onward-shows (getD K i 0) t means a s m)

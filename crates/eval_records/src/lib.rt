@@ -41,7 +41,8 @@ pub fn kind_at(s: &[u8], at: RecAt) -> u8
     0
 }
 
-fn pair_at(s: &[u8], at: RecAt) -> usize
+/// Two bytes as a number, the high one first; past the end each is 0.
+pub fn pair_at(s: &[u8], at: RecAt) -> usize
     requires { ⌜ Near (at .0) ⌝ }
     ensures { λ r. ⌜ PairIs (now (s .entry)) (at .0) r ⌝ }
 {

@@ -5,7 +5,7 @@ use mathlib.Core.Bool.{Bool, true, false, cond}
 use mathlib.Core.List.{List, [], _∷_, _++_}
 use native.Mathlib.Omega.{arith}
 use lib.ListN.{length, take, drop, length-append, length-drop}
-use lib.Seq.{sets, length-sets, take-take, length-take-le}
+use lib.Seq.{sets, length-sets, sets-eq, take-at, take-take, length-take-le}
 use borrow.Author.Tests.{le-leb}
 use Rattle.rules.specs.Bytes.{Text}
 use Rattle.rules.specs.Sizes.{maxRecords, maxText}
@@ -24,6 +24,13 @@ puts-append l i [] w = let e : i ≡ i + 0 = omega arith in ap (λ (j : ℕ). pu
 puts-append l i (x ∷ u) w =
     let e : i + x .0 + extent u ≡ i + (x .0 + extent u) = omega arith in
     puts-append (whole l i x) (i + x .0) u w ∙ ap (λ (j : ℕ). puts (puts (whole l i x) (i + x .0) u) j w) e
+
+-- bytes that were set stand behind those before them
+pub sets-end : (l : List ℕ) (i : ℕ) (xs : List ℕ) → i + length xs ≤ length l → take (i + length xs) (sets l i xs) ≡ take i l ++ xs
+sets-end l i xs h =
+    let e = length-take-le i l (omega arith) in
+    ap (take (i + length xs)) (sets-eq xs l i h)
+    ∙ take-at (take i l ++ xs) (drop (i + length xs) l) (i + length xs) (omega (arith, length-append (take i l) xs))
 
 pub extent-append : (u w : List Word) → extent (u ++ w) ≡ extent u + extent w
 unfolding extent

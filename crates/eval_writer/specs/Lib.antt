@@ -1,4 +1,5 @@
 pub mod Model
+pub mod Texts
 pub mod Contracts
 pub mod Composition
 pub mod Keys

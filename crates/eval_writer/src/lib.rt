@@ -68,8 +68,8 @@ pub fn put_head(room: &mut [u8], at: RecAt, kind: u8, count: usize)
     put_two(room, RecAt(p + 1), count);
 }
 
-// A record with two numbers.
-fn put_record(room: &mut [u8], at: RecAt, kind: u8, a: usize, n: usize)
+/// A record with two numbers.
+pub fn put_record(room: &mut [u8], at: RecAt, kind: u8, a: usize, n: usize)
     requires { ⌜ Room (now room) × Near (at .0) ⌝ }
     ensures { λ _. ⌜ Puts (at .0) (kind ∷ two a ++ two n) (now (room .entry)) (now (room .exit)) ⌝ }
 {
@@ -93,8 +93,8 @@ pub fn fill(out: &mut [u8], to: usize, from: &[u8], at: usize, n: usize)
     }
 }
 
-// A text, whole or not at all; and not at all where it does not lie in `from`.
-fn put_text(room: &mut [u8], to: TextAt, from: &[u8], at: TextAt, n: TextLen)
+/// A text, whole or not at all; and not at all where it does not lie in `from`.
+pub fn put_text(room: &mut [u8], to: TextAt, from: &[u8], at: TextAt, n: TextLen)
     requires { ⌜ Room (now room) × Near (to .0) × Near (at .0) × (n .0 ≤ longestText) ⌝ }
     ensures { λ _. ⌜ PutsText (to .0) (n .0) (wordAt (now (from .entry)) (at .0) (n .0)) (now (room .entry)) (now (room .exit)) ⌝ }
 {

@@ -1,13 +1,13 @@
 -- What the pass over the items says of a document. The items stand from 0 on, up to the table's capacity; the index from number to item
 -- stands behind them.
 use mathlib.Core.Path.{_≡_}
-use Prim.Native.Nat.{ℕ, suc, _+_, _*_, _<_}
+use Prim.Native.Nat.{ℕ, suc, _+_, _*_, _≤_, _<_}
 use mathlib.Core.List.{List, [], _∷_}
 use mathlib.Core.Option.{none, some}
 use mathlib.Core.Logic.{_⊎_}
 use lib.ListN.{length, set, getElem?}
-use Rattle.rules.specs.Sizes.{maxUnresolved}
-use Rattle.rules.specs.Tree.{Pieces, no-pieces, nodePiece, substituted, Root, rootNode, numberRoot, AllNode}
+use Rattle.rules.specs.Sizes.{maxUnresolved, maxPath}
+use Rattle.rules.specs.Tree.{Substitution, Pieces, no-pieces, nodePiece, substituted, Root, rootNode, numberRoot, AllNode}
 use Rattle.rules.specs.Unresolved.{Unresolved, unresolvedIn}
 use Rattle.doc_items.specs.Codes.{unresolvedItem, asMember, width, kindAt, placeAt, numberAt, nextAt, sizeAt}
 use Rattle.doc_items.specs.Room.{indexAt}
@@ -41,9 +41,18 @@ Filled no-pieces = ⊥
 Filled (nodePiece place gap n ps) = Unit {0}
 Filled (substituted gap x ps) = Unit {0}
 
--- the pieces of an unresolved value that was read: there is one at least, and none is unresolved itself
+-- the path of a substitution has one element at least, and no more than document 01 allows
+abbrev pub PathFits : Substitution → Type 0
+PathFits x = (0 < length (x .path)) × (length (x .path) ≤ maxPath)
+
+abbrev pub PathsFit : Pieces → Type 0
+PathsFit no-pieces = Unit {0}
+PathsFit (nodePiece place gap n ps) = PathsFit ps
+PathsFit (substituted gap x ps) = PathFits x × PathsFit ps
+
+-- the pieces of an unresolved value that was read: there is one at least, none is unresolved itself, and paths are as long as they may be
 abbrev pub AsRead : ℕ → Pieces → Type 0
-AsRead b ps = Filled ps × Simples ps
+AsRead b ps = Filled ps × Simples ps × PathsFit ps
 
 -- a tree as it was read: the root's item is 0, and all items stand inside it; their numbers say nothing yet
 pub record WithoutNumbers (before : List ℕ) (items : ℕ) (h : ℕ → ℕ) (lo hi : ℕ) (root : Root) : Type 0 where

@@ -48,7 +48,7 @@ example : WithoutNumbers items 3 (λ k. getD text k 0) 0 5 root
 example = record {
   shown = (refl, (1, (omega arith, λ k a b. absurd (omega arith)), (omega arith, omega arith), (refl, tt, piece), (omega arith, λ k a b. absurd (omega arith))));
   whole = refl;
-  read = (((tt, tt), tt), tt);
+  read = (((tt, tt, ((omega arith, omega arith), tt)), tt), tt);
 }
 
 -- and the rules have one unresolved value there

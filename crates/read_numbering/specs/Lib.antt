@@ -1,3 +1,4 @@
 pub mod Contracts
 pub mod Reading
 pub mod Examples
+pub mod Paths

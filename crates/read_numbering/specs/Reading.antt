@@ -1,27 +1,30 @@
--- A document that was read is as the pass wants it: every unresolved value has pieces, and none of them is unresolved itself.
-use mathlib.Core.Path.{_≡_}
-use Prim.Native.Nat.{ℕ, zero, suc, _+_}
+-- A document that was read is as the pass wants it: every unresolved value has pieces, none of them is unresolved itself, and
+-- the path of a substitution has 1 to 16 elements.
+use mathlib.Core.Path.{_≡_, refl, ap}
+use Prim.Native.Nat.{ℕ, zero, suc, _+_, _≤_, _<_}
+use native.Mathlib.Omega.{arith}
 use mathlib.Core.List.{List, [], _∷_}
-use mathlib.Core.Bool.{true}
+use mathlib.Core.Bool.{Bool, true, false}
 use mathlib.Core.Option.{Option, none, some}
 use lib.Dec.{ltb, eqb}
 use lib.ListN.{length}
 use lib.Seq.{slice}
-use Rattle.rules.specs.Sizes.{maxNesting, maxItems}
+use Rattle.rules.specs.Sizes.{maxNesting, maxItems, maxPath}
 use Rattle.rules.specs.Bytes.{Text, byteAt}
-use Rattle.rules.specs.Refusals.{Refusal, placed, Read, got, refused, readThen, keepItems}
+use Rattle.rules.specs.Refusals.{Refusal, placed, notAllowed, Read, got, refused, readThen, keepItems, Scan, ok, andThen}
 use Rattle.rules.specs.Characters.{afterInline, afterGap}
 use Rattle.rules.specs.Pieces.{simpleAt}
-use Rattle.rules.specs.Paths.{Segment, Element, startsInclude, segmentsAt, elementsOf, judge, keysOf, substitutionAt}
-use Rattle.rules.specs.Tree.{Key, Node, simple, array, object, unresolved, Pieces, no-pieces, nodePiece, substituted, Root, rootNode, AllNode, AllElements, AllFields, AllPieces}
+use Rattle.rules.specs.Paths.{Segment, Element, startsInclude, segmentsAt, elementsOf, textsOf, judge, judged, keysOf, braced, substitutionAt}
+use Rattle.rules.specs.Tree.{Key, Substitution, Node, simple, array, object, unresolved, Pieces, no-pieces, nodePiece, substituted, Root, rootNode, AllNode, AllElements, AllFields, AllPieces}
 use Rattle.rules.specs.Reading.{Start, brace, bracket, dollar, simpleStart, startOf, Part, node, substitution, withPart, countItem, piecesFrom, hasSubstitution, kindOf, unlike, simpleJoined, joined, judgeValue, theEnd, parted, membersFrom, membersAt, FieldRead, valuePlace, allowedKeys, opened, fieldWith, fieldJudged, fieldAt, elementAt, arrayAt, objectAt, pieceAt, valueFrom, rootAt, readRoot}
 use Rattle.rules.specs.Utf8.{illFormed}
 use Rattle.rules.specs.Documents.{readTree}
 use Rattle.theory.specs.Choices.{by-test, by-option}
+use Rattle.theory.specs.PathsEnd.{Verdict, passes, refuses, Fitting, judge-verdict}
 use Rattle.theory.specs.Reach.{Each}
 use Rattle.theory.specs.TreeParts.{elements-joined, fields-joined, inside-all, fields-all, elements-all}
 use Rattle.doc_items.specs.Joining.{Simples}
-use Rattle.read_numbering.specs.Contracts.{AsRead}
+use Rattle.read_numbering.specs.Contracts.{PathFits, PathsFit, AsRead}
 
 -- ---- P of what a reading gives
 
@@ -41,13 +44,55 @@ gives-nothing : {A : Type 0} (x : Read A) → Gives Nothing x
 gives-nothing (got a at items) = tt
 gives-nothing (refused x) = tt
 
+-- ---- paths
+
+texts-length : (es : List Element) → length (textsOf es) ≡ length es
+texts-length [] = refl
+texts-length (e ∷ es) = ap suc (texts-length es)
+
+-- P of what a scan gives
+abbrev Scanned : {A : Type 0} → (A → Type 0) → Scan A → Type 0
+Scanned P (ok a end) = P a
+Scanned P (refused x) = Unit {0}
+
+gives-kept : {A : Type 0} (P : A → Type 0) (items : ℕ) (m : Scan A) → Scanned P m → Gives P (keepItems items m)
+gives-kept P items (ok a end) h = h
+gives-kept P items (refused x) h = tt
+
+module _ (s : List ℕ) where
+  braced-fits : (first : ℕ) (optional : Bool) (at : ℕ) → Scanned PathFits (braced s first optional at)
+  unfolding braced
+  braced-fits first optional at = go (segmentsAt false s at)
+    where
+      judged-fits : (es : List Element) (end : ℕ) {o : Option Refusal} → Verdict (Fitting maxPath es) o
+          → Scanned PathFits (judged o (record { place = first; optional = optional; path = textsOf es }) end)
+      judged-fits es end (passes h) = let e = texts-length es in (omega (arith, h .0), omega (arith, h .1))
+      judged-fits es end (refuses h) = tt
+
+      go : (m : Scan (List Segment)) → Scanned PathFits (andThen m (λ gs end. elim (eqb (byteAt s end) 125) as (λ _. Scan Substitution) [
+        | false ↦ refused (notAllowed s end)
+        | true ↦
+            let es = elementsOf gs in
+            judged (judge first maxPath es) (record { place = first; optional = optional; path = textsOf es }) (end + 1)
+      ]))
+      go (refused x) = tt
+      go (ok gs end) =
+          by-test (Scanned PathFits) (eqb (byteAt s end) 125)
+          (λ e. judged-fits (elementsOf gs) (end + 1) (judge-verdict first maxPath (elementsOf gs))) (λ e. tt)
+
+  substitution-fits : (at : ℕ) → Scanned PathFits (substitutionAt s at)
+  unfolding substitutionAt
+  substitution-fits at =
+      by-test (Scanned PathFits) (eqb (byteAt s (at + 2)) 63)
+      (λ e. braced-fits at true (afterInline s (at + 3))) (λ e. braced-fits at false (afterInline s (at + 2)))
+
 -- ---- pieces
 
 abbrev Whole : Node → Type 0
 Whole n = AllNode AsRead n
 
 abbrev WholePieces : Pieces → Type 0
-WholePieces ps = AllPieces AsRead ps × Simples ps
+WholePieces ps = AllPieces AsRead ps × Simples ps × PathsFit ps
 
 -- a piece is not unresolved itself
 abbrev WholePart : Part → Type 0
@@ -55,14 +100,14 @@ WholePart (node (simple x)) = Unit {0}
 WholePart (node (array es)) = AllElements AsRead es
 WholePart (node (object fs)) = AllFields AsRead fs
 WholePart (node (unresolved b ps)) = ⊥
-WholePart (substitution x) = Unit {0}
+WholePart (substitution x) = PathFits x
 
 with-part : (place : ℕ) (gap : Text) (part : Part) (ps : Pieces) → WholePart part → WholePieces ps → WholePieces (withPart place gap part ps)
-with-part place gap (node (simple x)) ps w v = ((tt, v .0), v .1)
-with-part place gap (node (array es)) ps w v = ((w, v .0), v .1)
-with-part place gap (node (object fs)) ps w v = ((w, v .0), v .1)
+with-part place gap (node (simple x)) ps w v = ((tt, v .0), v .1, v .2)
+with-part place gap (node (array es)) ps w v = ((w, v .0), v .1, v .2)
+with-part place gap (node (object fs)) ps w v = ((w, v .0), v .1, v .2)
 with-part place gap (node (unresolved b qs)) ps w v = absurd w
-with-part place gap (substitution x) ps w v = v
+with-part place gap (substitution x) ps w v = (v .0, v .1, (w, v .2))
 
 gives-counted : {A : Type 0} (P : A → Type 0) (items at : ℕ) (k : ℕ → Read A) → ((items₁ : ℕ) → Gives P (k items₁)) → Gives P (countItem items at k)
 unfolding countItem
@@ -73,7 +118,7 @@ pieces-whole : (n : ℕ) (pieceAt : Start → ℕ → ℕ → Read Part) (s : Li
 unfolding piecesFrom countItem
 pieces-whole zero pieceAt s from at items h = tt
 pieces-whole (suc n) pieceAt s from at items h =
-    by-option (Gives WholePieces) (startOf s at) (λ e. (tt, tt)) (λ start e.
+    by-option (Gives WholePieces) (startOf s at) (λ e. (tt, tt, tt)) (λ start e.
     by-test (Gives WholePieces) (ltb items maxItems) (λ f.
     gives-then WholePart WholePieces (pieceAt start at (items + 1)) _ (h start at (items + 1)) (λ part end items₂ w.
     gives-then WholePieces WholePieces (piecesFrom n pieceAt s end (afterInline s end) items₂) _
@@ -94,9 +139,9 @@ joined-whole place gap (unresolved b qs) ps w = absurd (w .1)
 judged-whole : (ps : Pieces) (at items : ℕ) → WholePieces ps → Gives Whole (judgeValue ps at items)
 unfolding judgeValue
 judged-whole no-pieces at items w = tt
-judged-whole (substituted gap x ps) at items w = ((tt, w .1), w .0)
+judged-whole (substituted gap x ps) at items w = ((tt, w .1, w .2), w .0)
 judged-whole (nodePiece place gap n ps) at items w =
-    by-test (Gives Whole) (hasSubstitution ps) (λ e. ((tt, w .1), w .0)) (λ e.
+    by-test (Gives Whole) (hasSubstitution ps) (λ e. ((tt, w .1, w .2), w .0)) (λ e.
     by-option (Gives Whole) (unlike (kindOf n) ps) (λ f. joined-whole place gap n ps w) (λ other f. tt))
 
 -- ---- members
@@ -181,8 +226,8 @@ module _ (valueAt : ℕ → ℕ → ℕ → Read Node) (h : (nesting at items : 
       gives-then (AllElements AsRead) WholePart (arrayAt valueAt s (nesting + 1) (at + 1) items) _
       (array-whole s (nesting + 1) (at + 1) items) (λ es end items₁ w. w)) (λ e. tt)
   piece-whole s nesting dollar at items =
-      gives-then Nothing WholePart (keepItems items (substitutionAt s at)) _ (gives-nothing (keepItems items (substitutionAt s at)))
-      (λ x end items₁ z. tt)
+      gives-then PathFits WholePart (keepItems items (substitutionAt s at)) _ (gives-kept PathFits items (substitutionAt s at) (substitution-fits s at))
+      (λ x end items₁ w. w)
   piece-whole s nesting simpleStart at items =
       gives-then Nothing WholePart (keepItems items (simpleAt s at)) _ (gives-nothing (keepItems items (simpleAt s at))) (λ t end items₁ z. tt)
 

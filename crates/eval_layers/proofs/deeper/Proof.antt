@@ -6,10 +6,10 @@ use Rattle.eval_layers.proofs.deeper.Statement.{statement}
 use Rattle.eval_layers.proofs.deeper.Tie as tie
 
 abbrev Inv-loop : tie.InvT-loop
-Inv-loop table records texts s₀ base k hi i₀ w₀ s i w = DeepInv table records texts i₀ hi (w₀ .stuck) base k s₀ s i w
+Inv-loop table records work₀ base key hi i₀ walk₀ work i walk = DeepInv table records i₀ hi (walk₀ .stuck) base key work₀ work i walk
 
 abbrev μ-loop : tie.MeasureT-loop
-μ-loop table records texts s₀ base k hi i₀ w₀ s i w = hi - i
+μ-loop table records work₀ base key hi i₀ walk₀ work i walk = hi - i
 
 pub deeper-spec : {M : Type 1} → statement M
 deeper-spec =
@@ -18,8 +18,7 @@ deeper-spec =
     Inv-loop
     μ-loop
     (λ c. search deeps)
-    (λ c. search needs)
-    (λ c. search needs)
+    (λ c κs. search needs)
     (λ c κs. search needs)
     (λ c. search needs)
     (λ c. search needs)

@@ -5,10 +5,10 @@ use Rattle.eval_layers.proofs.gather.Statement.{statement}
 use Rattle.eval_layers.proofs.gather.Tie as tie
 
 abbrev Inv-loop : tie.InvT-loop
-Inv-loop table records s lo hi stuck i₀ i = GatherInv table records s lo hi stuck i
+Inv-loop table records work₀ lo hi stuck i₀ top₀ work i top = GatherInv table records lo hi stuck work₀ work i top
 
 abbrev μ-loop : tie.MeasureT-loop
-μ-loop table records s lo hi stuck i₀ i = i
+μ-loop table records work₀ lo hi stuck i₀ top₀ work i top = i
 
 pub gather-spec : {M : Type 1} → statement M
 gather-spec =
@@ -18,17 +18,17 @@ gather-spec =
     μ-loop
     (λ c. search gathers)
     (λ c. search needs)
-    (λ c. search needs)
-    (λ c. search needs)
+    (λ c κs. search needs)
     (λ c κs. search needs)
     (λ c. search needs)
-    (λ c. search needs)
     (λ c κs. search needs)
-    (λ c. search gathers)
-    (λ c. search needs)
-    (λ c. search needs)
     (λ c. search needs)
     (λ c. search gathers)
     (λ c. search needs)
     (λ c κs. search needs)
+    (λ c. search needs)
+    (λ c. search needs)
+    (λ c. search gathers)
+    (λ c κs. search needs)
+    (λ c. search needs)
     (λ c. search gathers))

@@ -7,4 +7,11 @@ use Rattle.eval_layers.proofs.inside.Tie as tie
 pub inside-spec : {M : Type 1} → statement M
 inside-spec =
     tie.close
-    (tie.spec (λ c κs. search needs) (λ c. search needs) (λ c. search needs) (λ c κs. search needs) (λ c. search insides) (λ c. search needs) (λ c. search insides))
+    (tie.spec
+    (λ c κs. search needs)
+    (λ c. search needs)
+    (λ c. search needs)
+    (λ c κs. search needs)
+    (λ c. search insides)
+    (λ c. search needs)
+    (λ c. search insides))

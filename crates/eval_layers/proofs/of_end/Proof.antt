@@ -1,5 +1,5 @@
--- laws: endeds
-use Rattle.eval_layers.proofs.Tops.{endeds}
+-- laws: ends
+use Rattle.eval_layers.proofs.Tops.{ends}
 use borrow.Author.Needs.{needs}
 use Rattle.eval_layers.proofs.of_end.Statement.{statement}
 use Rattle.eval_layers.proofs.of_end.Tie as tie
@@ -10,6 +10,6 @@ of-end-spec =
     (tie.spec
     (λ c. search needs)
     (λ c. search needs)
-    (λ c. search endeds)
-    (λ c. search endeds)
-    (λ c. search endeds))
+    (λ c. search ends)
+    (λ c. search ends)
+    (λ c. search ends))

@@ -1,5 +1,5 @@
--- laws: mets
-use Rattle.eval_layers.proofs.Tops.{mets}
+-- laws: others
+use Rattle.eval_layers.proofs.Tops.{others}
 use Rattle.eval_layers.proofs.of_other.Statement.{statement}
 use Rattle.eval_layers.proofs.of_other.Tie as tie
 
@@ -7,5 +7,5 @@ pub of-other-spec : {M : Type 1} → statement M
 of-other-spec =
     tie.close
     (tie.spec
-    (λ c. search mets)
-    (λ c. search mets))
+    (λ c. search others)
+    (λ c. search others))

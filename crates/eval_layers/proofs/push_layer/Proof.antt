@@ -1,5 +1,5 @@
 -- laws: lays
-use Rattle.eval_layers.proofs.Stacks.{lays}
+use Rattle.eval_layers.proofs.Walks.{lays}
 use borrow.Author.Needs.{needs}
 use Rattle.eval_layers.proofs.push_layer.Statement.{statement}
 use Rattle.eval_layers.proofs.push_layer.Tie as tie
@@ -10,7 +10,7 @@ push-layer-spec =
     (tie.spec
     (λ c κs. search needs)
     (λ c. search needs)
-    (λ c κs. search needs)
+    (λ c κs. search lays)
     (λ c. search needs)
     (λ c. search needs)
     (λ c. search needs)

@@ -9,11 +9,9 @@ key-of-spec =
     tie.close
     (tie.spec
     (λ c. search needs)
-    (λ c. search needs)
     (λ c κs. search needs)
-    (λ c. search needs)
-    (λ c. search needs)
     (λ c κs. search needs)
     (λ c. search keys)
+    (λ c κs. search needs)
     (λ c κs. search needs)
     (λ c. search keys))

@@ -7,4 +7,9 @@ use Rattle.eval_members.proofs.record_key.Tie as tie
 pub record-key-spec : {M : Type 1} → statement M
 record-key-spec =
     tie.close
-    (tie.spec (λ c. search record-keys) (λ c. search record-keys) (λ c. search needs) (λ c κs. search needs) (λ c. search needs) (λ c κs. search needs) (λ c. search needs) (λ c. search record-keys))
+    (tie.spec
+    (λ c. search record-keys)
+    (λ c. search record-keys)
+    (λ c. search needs)
+    (λ c κs. search needs)
+    (λ c. search record-keys))

@@ -6,10 +6,10 @@ use Rattle.eval_paths.proofs.walk_path.Statement.{statement}
 use Rattle.eval_paths.proofs.walk_path.Tie as tie
 
 abbrev Inv-loop : tie.InvT-loop
-Inv-loop table records texts s₀ route from i₀ p₀ s i p = WalkInv table records texts s₀ p₀ route from s i p
+Inv-loop table records work₀ keys count from i₀ p₀ work i p = WalkInv table records keys work₀ p₀ count from work i p
 
 abbrev μ-loop : tie.MeasureT-loop
-μ-loop table records texts s₀ route from i₀ p₀ s i p = route .count - i
+μ-loop table records work₀ keys count from i₀ p₀ work i p = count - i
 
 pub walk-path-spec : {M : Type 1} → statement M
 walk-path-spec =

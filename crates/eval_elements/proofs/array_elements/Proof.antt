@@ -1,0 +1,17 @@
+-- laws: array-laws
+use Rattle.eval_elements.proofs.Returns.{array-laws, lending}
+use borrow.Author.Needs.{needs}
+use Rattle.eval_elements.proofs.array_elements.Statement.{statement}
+use Rattle.eval_elements.proofs.array_elements.Tie as tie
+
+pub array-elements-spec : {M : Type 1} → statement M
+array-elements-spec =
+    tie.close
+    (tie.spec
+    (λ c κs. search needs)
+    (λ c. search needs)
+    (λ c. search array-laws)
+    (λ c κs. search needs)
+    (λ c. search needs)
+    (λ c. search needs)
+    (λ c. search array-laws))

@@ -1,0 +1,19 @@
+-- laws: finished-laws
+use Rattle.eval_elements.proofs.Returns.{finished-laws, lending}
+use borrow.Author.Needs.{needs}
+use Rattle.eval_elements.proofs.finished_elements.Statement.{statement}
+use Rattle.eval_elements.proofs.finished_elements.Tie as tie
+
+pub finished-elements-spec : {M : Type 1} → statement M
+finished-elements-spec =
+    tie.close
+    (tie.spec
+    (λ c. search finished-laws)
+    (λ c. search needs)
+    (λ c. search needs)
+    (λ c κs. search needs)
+    (λ c. search needs)
+    (λ c κs. search needs)
+    (λ c κs. search needs)
+    (λ c. search needs)
+    (λ c. search finished-laws))

@@ -1,0 +1,12 @@
+-- laws: more-laws
+use Rattle.eval_extents.proofs.Extents.{more-laws}
+use borrow.Author.Needs.{needs}
+use Rattle.eval_extents.proofs.with_more.Statement.{statement}
+use Rattle.eval_extents.proofs.with_more.Tie as tie
+
+pub with-more-spec : {M : Type 1} → statement M
+with-more-spec =
+    tie.close
+    (tie.spec
+    (λ c. search more-laws)
+    (λ c. search more-laws))

@@ -1,0 +1,3 @@
+pub mod Contracts
+pub mod Came
+pub mod Members

@@ -1,0 +1,13 @@
+pub mod Model
+pub mod Contracts
+pub mod Links
+pub mod Linking
+pub mod Groups
+pub mod Stores
+pub mod Adding
+pub mod Chains
+pub mod Firsts
+pub mod Entries
+pub mod Room
+pub mod Shown
+pub mod Examples

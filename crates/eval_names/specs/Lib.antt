@@ -1,0 +1,4 @@
+pub mod Model
+pub mod Paths
+pub mod Contracts
+mod Examples

@@ -1,0 +1,30 @@
+// The layers of a path of one key: the root's fields with that key, found by the links between them.
+// Computes: Layers (deeper of the root, by the links of eval_root)
+use doc_items::number_at;
+use eval_layers::Stuck;
+use eval_layers::Walked;
+ghost use Prim.Native.Nat.{_<_};
+ghost use Rattle.doc_items.specs.Room.{numberBound};
+ghost use Rattle.eval_stack.specs.Contracts.{Stack};
+ghost use Rattle.eval_of_root.specs.Contracts.{OfRootIs};
+
+/// The root's fields with a key's number, as layers from base on. Links that are right rise, so the walk ends where one does not.
+pub fn of_root(table: &[u16], work: &mut [u16], base: usize, key: usize) -> Walked
+    requires { ⌜ Stack base base (now work) × (key < numberBound) ⌝ }
+    ensures { λ r. ⌜ OfRootIs (now (table .entry)) key base (now (work .entry)) (now (work .exit)) r ⌝ }
+{
+    let mut i = number_at(table, eval_keys::FIRST + key);
+    let mut walk = Walked {
+        top: base,
+        stuck: Stuck::No,
+    };
+    while i != 0 {
+        walk = eval_layers::push_layer(table, work, base, walk, i);
+        let next = number_at(table, eval_keys::NEXT + i);
+        if next <= i {
+            return walk;
+        }
+        i = next;
+    }
+    walk
+}

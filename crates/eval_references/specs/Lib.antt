@@ -1,0 +1,5 @@
+pub mod Model
+pub mod Contracts
+pub mod Documents
+pub mod Shows
+pub mod LayersFor

@@ -1,0 +1,4 @@
+pub mod Model
+pub mod Contracts
+pub mod Elements
+pub mod Examples

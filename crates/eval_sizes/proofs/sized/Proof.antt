@@ -1,0 +1,13 @@
+-- laws: sized-laws
+use Rattle.eval_sizes.proofs.Sizing.{sized-laws}
+use borrow.Author.Needs.{needs}
+use Rattle.eval_sizes.proofs.sized.Statement.{statement}
+use Rattle.eval_sizes.proofs.sized.Tie as tie
+
+pub sized-spec : {M : Type 1} → statement M
+sized-spec =
+    tie.close
+    (tie.spec
+    (λ c κs. search needs)
+    (λ c. search sized-laws)
+    (λ c. search sized-laws))

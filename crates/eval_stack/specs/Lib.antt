@@ -1,0 +1,4 @@
+pub mod Model
+pub mod Contracts
+pub mod Pushes
+pub mod Examples

@@ -1,0 +1,10 @@
+pub mod Agreeing
+pub mod Members
+pub mod Memories
+pub mod Documents
+pub mod Values
+pub mod State
+pub mod Keeping
+pub mod Later
+pub mod Counters
+pub mod Contracts

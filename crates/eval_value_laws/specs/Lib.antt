@@ -1,0 +1,12 @@
+pub mod Ground
+pub mod Counting
+pub mod OneRoom
+pub mod Elements
+pub mod Contracts
+pub mod Given
+pub mod Frames
+pub mod Nodes
+pub mod Holders
+pub mod Takings
+pub mod Fields
+pub mod Listing

@@ -1,0 +1,4 @@
+pub mod Answers
+pub mod Unpacking
+pub mod Bits
+pub mod Contracts

@@ -1,0 +1,1 @@
+// Definitions and proofs only (specs/): checking a sheet entry by entry, as the code does it.

@@ -1,0 +1,1 @@
+// Definitions and proofs only (specs/): how many nodes a document has with its answers.
