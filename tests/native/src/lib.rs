@@ -1,8 +1,17 @@
-//! The exported look-up and lengths as Rust calls them, and what the tests hold them against.
+//! The exported jobs and lengths as Rust calls them, and what the tests hold them against.
 
+pub mod documents;
+#[cfg(feature = "jobs")]
+pub mod jobs;
 pub mod lengths;
 pub mod plain;
+pub mod plain_pieces;
+pub mod plain_read;
+pub mod plain_resolve;
+pub mod plain_tree;
+pub mod plain_values;
 pub mod random;
+pub mod sheets;
 
 use std::ops::Range;
 
