@@ -1,11 +1,32 @@
 /*
- * dzintrulo.h - reading resolved HOCON settings
+ * dzintrulo.h - resolved HOCON settings
  *
  * Link with libdzintrulo.a (x86-64 Linux). For C99 and later, and for C++.
  *
- * A resolved configuration is two parts of bytes: a table, which holds it as
- * compact records, and a text, which holds the bytes of its keys, strings and
- * numbers. dz_look_up() finds the value that a path names in them:
+ * A configuration is worked out once, on an office computer, into a sheet; the
+ * device checks the sheet against the configuration and then reads settings
+ * from it:
+ *
+ *     static uint8_t trail[DZ_PART_MAX], table[DZ_PART_MAX], text[DZ_PART_MAX];
+ *     uint64_t done = dz_resolve(document, document_len, NULL, 0, DZ_BUDGET_MAX,
+ *                                trail, sizeof trail, table, sizeof table,
+ *                                text, sizeof text);
+ *     if (dz_number(done) != DZ_OK)
+ *         stop(dz_words(dz_number(done)), dz_place(done));
+ *     size_t trail_len = dz_resolve_trail_length(done);
+ *     size_t table_len = dz_resolve_table_length(done);
+ *     size_t text_len = dz_resolve_text_length(done);
+ *
+ *     uint64_t answer = dz_check(document, document_len, NULL, 0,
+ *                                trail, trail_len, table, table_len,
+ *                                text, text_len);
+ *     if (!dz_check_accepted(answer))
+ *         stop(dz_words(dz_number(answer)), dz_place(answer));
+ *
+ * A sheet is three parts of bytes: a trail, which lists what each value with a
+ * ${..} in it came to; a table, which holds the configuration as compact
+ * records; and a text, which holds the bytes of their keys, strings and numbers.
+ * dz_look_up() finds the value that a path names in table and text:
  *
  *     const char *path = "plate.min";
  *     uint64_t answer = dz_look_up(table, table_len, text, text_len,
@@ -24,6 +45,9 @@
  *     if (dz_length_number(length) == DZ_OK)
  *         show(dz_length_micrometres(length));
  *
+ * Any other value is read by the functions on records below, as dz_kind() and
+ * dz_text_offset(). What is not in this header is no interface.
+ *
  *
  * What holds for every function here
  *
@@ -34,9 +58,18 @@
  * Hostile bytes. No content and no length of them is an error of the caller.
  *     What cannot be used is refused, with a number and a place.
  * Overlap. Bytes that are only read may overlap in any way, or be the same.
+ *     A buffer that is written to (dz_resolve() has three) overlaps nothing
+ *     else that is lent to the call.
  * Threads. There is no state behind the calls, and no heap is used. Any number
  *     of threads may call at the same time, on the same bytes too, as long as
  *     nobody writes to bytes that are lent to a call.
+ * Stack. Scratch memory is on the stack. dz_resolve() and dz_check() take at
+ *     most DZ_STACK_MAX bytes of it, dz_look_up() and dz_length() at most
+ *     DZ_LOOK_UP_STACK_MAX, and a thread's stack must have them free: threads of
+ *     musl have 131,072 bytes unless more is asked for. This is measured at the
+ *     limits, and not proved.
+ * Needs. The archive needs memcpy and memset of the C library, and nothing
+ *     else. It has no unwind tables: nothing can be thrown through it.
  */
 #ifndef DZINTRULO_H
 #define DZINTRULO_H
@@ -47,16 +80,33 @@
 
 #ifdef __cplusplus
 extern "C" {
+#define DZ_CAST(type, value) static_cast<type>(value)
+#else
+#define DZ_CAST(type, value) ((type)(value))
 #endif
+
+/*
+ * Version of this interface: as text, and as 10,000 * major + 100 * minor + patch
+ */
+#define DZINTRULO_VERSION "0.1.0"
+#define DZINTRULO_VERSION_NUMBER 100
 
 /*
  * Limits
  */
-#define DZ_PART_MAX 32768u       /* bytes of a lent table, and of a lent text */
-#define DZ_PATH_TEXT_MAX 1024u   /* bytes of a path text */
-#define DZ_PATH_ELEMENTS_MAX 16u /* names in a path */
-#define DZ_NESTING_MAX 32u       /* arrays and objects in one another; the root counts */
+#define DZ_DOCUMENT_MAX 32768u    /* bytes of a document */
+#define DZ_ENVIRONMENT_MAX 8192u  /* bytes of an environment */
+#define DZ_NAMES_MAX 64u          /* names in an environment */
+#define DZ_BUDGET_MAX 256u        /* values with ${..} that may be worked out; a document has no more */
+#define DZ_ITEMS_MAX 2048u        /* fields, elements and pieces of values in a document */
+#define DZ_VALUE_MAX 16384u       /* bytes of records, and of text, of one value and of the whole table */
+#define DZ_PART_MAX 32768u        /* bytes of a part of a sheet: trail, table, text */
+#define DZ_PATH_TEXT_MAX 1024u    /* bytes of a path text */
+#define DZ_PATH_ELEMENTS_MAX 16u  /* names in a path */
+#define DZ_NESTING_MAX 32u        /* arrays and objects in one another; the root counts */
 #define DZ_MICROMETRES_MAX 1000000u /* a length, in micrometres */
+#define DZ_STACK_MAX 524288u      /* bytes of stack that a job takes at most */
+#define DZ_LOOK_UP_STACK_MAX 8192u /* of them, dz_look_up() and dz_length() */
 
 /*
  * Refusal numbers
@@ -67,21 +117,72 @@ extern "C" {
  */
 enum dz_number {
     DZ_OK = 0,
-    DZ_BAD_INPUT = 1,            /* an input over its size */
+    DZ_BAD_INPUT = 1,            /* an input over its size or against its rule */
     DZ_ILL_FORMED_UTF8 = 2,      /* not UTF-8 */
     DZ_BYTE_NOT_ALLOWED = 3,     /* a byte that the grammar does not allow */
     DZ_UNEXPECTED_END = 4,       /* the end, inside something open */
     DZ_BAD_NUMBER_OR_STRING = 5, /* '-' without a number, bad escape, control byte */
+    DZ_INCLUDE = 6,              /* include, which is not read yet */
     DZ_BAD_PATH = 7,             /* an empty path, or an empty name without quotes */
     DZ_OVER_LIMIT = 8,           /* more of something than the limit */
+    DZ_NOT_SET = 9,              /* nothing sets a required ${..} */
+    DZ_NEEDS_ITSELF = 10,        /* a value is needed to work out itself */
+    DZ_KINDS_MIXED = 11,         /* text, array and object in one value */
+    DZ_OVER_BUDGET = 12,         /* more values with ${..} than the budget */
+    DZ_VALUE_TOO_LARGE = 13,     /* a value over DZ_VALUE_MAX or DZ_NESTING_MAX */
+    DZ_NO_ROOM = 14,             /* trail, table or text does not fit its buffer */
     DZ_NOT_A_TABLE = 15,         /* the records are not one whole table */
     DZ_NOT_FOUND = 16,           /* the path names nothing */
+    DZ_NOT_ACCEPTED = 17,        /* the sheet is not one of this document */
     DZ_MALFORMED_LENGTH = 20,    /* no number with its unit */
     DZ_BARE_NUMBER = 21,         /* a number without its unit */
     DZ_MINUS_SIGN = 22,          /* a length with a minus sign */
     DZ_NOT_WHOLE_MICROMETRES = 23, /* a length that is not whole micrometres */
     DZ_TOO_LONG = 24             /* a length over DZ_MICROMETRES_MAX */
 };
+
+/* The refusal number of any job's answer; DZ_OK if it is no refusal. */
+static inline int dz_number(uint64_t answer)
+{
+    return DZ_CAST(int, answer & 0x3f);
+}
+
+/* The place of any job's refusal; 0 if the answer is none. */
+static inline size_t dz_place(uint64_t answer)
+{
+    return dz_number(answer) == DZ_OK ? 0 : DZ_CAST(size_t, answer >> 6 & 0xffff);
+}
+
+/* A refusal number in words, at most 24 characters: a line of a small display. */
+static inline const char *dz_words(int number)
+{
+    switch (number) {
+    case DZ_OK: return "ok";
+    case DZ_BAD_INPUT: return "input not allowed";
+    case DZ_ILL_FORMED_UTF8: return "not UTF-8";
+    case DZ_BYTE_NOT_ALLOWED: return "character not allowed";
+    case DZ_UNEXPECTED_END: return "file ends too early";
+    case DZ_BAD_NUMBER_OR_STRING: return "bad number or quotes";
+    case DZ_INCLUDE: return "include not read";
+    case DZ_BAD_PATH: return "bad name";
+    case DZ_OVER_LIMIT: return "over a limit";
+    case DZ_NOT_SET: return "name not set";
+    case DZ_NEEDS_ITSELF: return "value needs itself";
+    case DZ_KINDS_MIXED: return "kinds mixed";
+    case DZ_OVER_BUDGET: return "over the budget";
+    case DZ_VALUE_TOO_LARGE: return "value too large";
+    case DZ_NO_ROOM: return "sheet too large";
+    case DZ_NOT_A_TABLE: return "damaged table";
+    case DZ_NOT_FOUND: return "no such setting";
+    case DZ_NOT_ACCEPTED: return "sheet not accepted";
+    case DZ_MALFORMED_LENGTH: return "not a length";
+    case DZ_BARE_NUMBER: return "number without unit";
+    case DZ_MINUS_SIGN: return "length below zero";
+    case DZ_NOT_WHOLE_MICROMETRES: return "not whole micrometres";
+    case DZ_TOO_LONG: return "length over 1 m";
+    default: return "refused";
+    }
+}
 
 /*
  * Records
@@ -99,6 +200,9 @@ enum dz_number {
  *     7 object         count of members (2 bytes), then the members: each a key
  *                      and then a value
  *     8 key            offset in the text (2 bytes), length (2 bytes)
+ *     9 entry          number of a value with ${..} (2 bytes), then what it came
+ *                      to: a value
+ *    10 undefined      number of a value with ${..} (2 bytes); it came to nothing
  *
  * A value is a record of kind 1 to 7 together with its members. A number's text
  * is the number as it was written, in JSON's form; a string's and a key's is
@@ -117,6 +221,9 @@ enum dz_number {
  *           04 00 01 00 01              number, text 1 to 2: 1
  *        08 00 02 00 01                 key, text 2 to 3: b
  *           06 00 01  03                an array of one member: true
+ *
+ * A trail is entries, of kind 9 and 10, one behind the other. Values with ${..}
+ * are numbered from 0 in the order of their first bytes in the document.
  */
 enum dz_kind {
     DZ_KIND_NULL = 1,
@@ -126,8 +233,210 @@ enum dz_kind {
     DZ_KIND_STRING = 5,
     DZ_KIND_ARRAY = 6,
     DZ_KIND_OBJECT = 7,
-    DZ_KIND_KEY = 8
+    DZ_KIND_KEY = 8,
+    DZ_KIND_ENTRY = 9,
+    DZ_KIND_UNDEFINED = 10
 };
+
+/*
+ * Reading a record. It must be whole, as all are in a value that dz_look_up()
+ * found and behind one: these functions test nothing.
+ */
+
+/* The kind of the record. */
+static inline int dz_kind(const uint8_t *record)
+{
+    return record[0];
+}
+
+/* Of a number, string or key: where its text begins in the text part. */
+static inline size_t dz_text_offset(const uint8_t *record)
+{
+    return DZ_CAST(size_t, record[1] * 256 + record[2]);
+}
+
+/* Of a number, string or key: how many bytes its text has. */
+static inline size_t dz_text_length(const uint8_t *record)
+{
+    return DZ_CAST(size_t, record[3] * 256 + record[4]);
+}
+
+/* Of an array or object: how many members it has. */
+static inline size_t dz_member_count(const uint8_t *record)
+{
+    return DZ_CAST(size_t, record[1] * 256 + record[2]);
+}
+
+/* How many bytes the record has by itself, without members: 1, 3 or 5. */
+static inline size_t dz_record_length(const uint8_t *record)
+{
+    switch (dz_kind(record)) {
+    case DZ_KIND_NUMBER:
+    case DZ_KIND_STRING:
+    case DZ_KIND_KEY: return 5;
+    case DZ_KIND_ARRAY:
+    case DZ_KIND_OBJECT:
+    case DZ_KIND_ENTRY:
+    case DZ_KIND_UNDEFINED: return 3;
+    default: return 1;
+    }
+}
+
+/* Of an entry of a trail: the number of the value with ${..} that it answers. */
+static inline size_t dz_entry_number(const uint8_t *record)
+{
+    return DZ_CAST(size_t, record[1] * 256 + record[2]);
+}
+
+/*
+ * dz_resolve - work a document out into a sheet
+ *
+ *   document, document_len         the configuration, HOCON as docs/FORMAT.md has
+ *                                  it, at most DZ_DOCUMENT_MAX bytes
+ *   environment, environment_len   names and texts for what the document does not
+ *                                  set, at most DZ_ENVIRONMENT_MAX bytes and
+ *                                  DZ_NAMES_MAX names: each a non-empty name
+ *                                  without '=', then '=', its text, and a zero
+ *                                  byte; UTF-8. Of equal names the first counts.
+ *   budget                         how many values with ${..} may be worked out,
+ *                                  0 to DZ_BUDGET_MAX; with DZ_BUDGET_MAX number
+ *                                  12 never comes
+ *   trail, trail_len               the three buffers that the sheet is written to.
+ *   table, table_len               Each may have any length; what is past
+ *   text, text_len                 DZ_PART_MAX bytes is not used for the sheet
+ *
+ * Document and environment are only read. Every byte of the three buffers is
+ * written, past DZ_PART_MAX too: what is not used is zero, and after a refusal
+ * all of it is zero. The buffers overlap nothing else that is lent.
+ *
+ * Returns a count and the used lengths, or a refusal. Take it apart with the
+ * functions below; its bits are
+ *
+ *     bits         done                     refused
+ *     0 to 5       0                        number
+ *     6 to 14      count                    place (6 to 21)
+ *     15 to 30     length of the trail
+ *     31 to 46     length of the table      0 (22 to 63; kept for a document's
+ *     47 to 62     length of the text       number, line and column)
+ *     63           0
+ *
+ * The count is that of the values with ${..} which were begun, and equals the
+ * entries of the trail. The used parts are the sheet: dz_check() accepts them for
+ * the same document and environment.
+ *
+ * Refusals, in the order in which they are judged:
+ *
+ *     number                        when, and the place
+ *
+ *      1 DZ_BAD_INPUT               The document is over DZ_DOCUMENT_MAX bytes,
+ *                                   the environment over its limits, not UTF-8
+ *                                   or not of its form, or the budget over
+ *                                   DZ_BUDGET_MAX. Place 0.
+ *      2 DZ_ILL_FORMED_UTF8         The first byte of the first ill-formed
+ *                                   sequence of the document.
+ *      3 DZ_BYTE_NOT_ALLOWED        A byte that the grammar does not allow there:
+ *                                   that byte.
+ *      4 DZ_UNEXPECTED_END          The document ends inside something open, or
+ *                                   in a field. Its length.
+ *      5 DZ_BAD_NUMBER_OR_STRING    A '-' that starts no number: the '-'. In
+ *                                   quotes, an escape that JSON does not have or
+ *                                   a surrogate without its mate next to it: its
+ *                                   '\'. There too, one of the bytes 00 to 1F:
+ *                                   that byte.
+ *      6 DZ_INCLUDE                 A key that begins with the unquoted word
+ *                                   include: its first byte.
+ *      7 DZ_BAD_PATH                A ${..} in a key, or a ${..} whose path is
+ *                                   empty or has an empty name: the '$'. A key
+ *                                   with an empty name: its first byte.
+ *      8 DZ_OVER_LIMIT              Nesting over DZ_NESTING_MAX, items over
+ *                                   DZ_ITEMS_MAX, names of a path over
+ *                                   DZ_PATH_ELEMENTS_MAX or values with ${..}
+ *                                   over DZ_BUDGET_MAX: the first byte of the
+ *                                   first one too many.
+ *     11 DZ_KINDS_MIXED             Text, array and object in one value without
+ *                                   ${..}: the first piece unlike the first.
+ *
+ *      9 DZ_NOT_SET                 Neither the document nor the environment sets
+ *                                   a required ${..}: its '$'.
+ *     10 DZ_NEEDS_ITSELF            A value with ${..} is needed to work out
+ *                                   itself: its first byte.
+ *     11 DZ_KINDS_MIXED             As above, in a value with ${..}: the first
+ *                                   piece unlike the first defined one.
+ *     12 DZ_OVER_BUDGET             One value with ${..} more than the budget is
+ *                                   needed: its first byte.
+ *     13 DZ_VALUE_TOO_LARGE         A value with ${..}, a part of one, or the
+ *                                   table is over DZ_VALUE_MAX bytes of records
+ *                                   or of text, or nested over DZ_NESTING_MAX.
+ *                                   Place 0.
+ *     14 DZ_NO_ROOM                 The trail, the table or the text does not fit
+ *                                   its buffer, or is over DZ_PART_MAX. Place 0.
+ *
+ * 2 is judged over the whole document; 3 to 8 and 11 from left to right while it
+ * is read, and the first one met is given; 9 to 14 while it is worked out.
+ */
+uint64_t dz_resolve(const uint8_t *document, size_t document_len,
+                    const uint8_t *environment, size_t environment_len,
+                    uint64_t budget, uint8_t *trail, size_t trail_len,
+                    uint8_t *table, size_t table_len,
+                    uint8_t *text, size_t text_len);
+
+/* How many values with ${..} were begun; 0 for a refusal. */
+static inline size_t dz_resolve_count(uint64_t answer)
+{
+    return dz_number(answer) == DZ_OK ? DZ_CAST(size_t, answer >> 6 & 0x1ff) : 0;
+}
+
+/* How many bytes of the trail are used; 0 for a refusal. */
+static inline size_t dz_resolve_trail_length(uint64_t answer)
+{
+    return dz_number(answer) == DZ_OK ? DZ_CAST(size_t, answer >> 15 & 0xffff) : 0;
+}
+
+/* How many bytes of the table are used; 0 for a refusal, and only then. */
+static inline size_t dz_resolve_table_length(uint64_t answer)
+{
+    return dz_number(answer) == DZ_OK ? DZ_CAST(size_t, answer >> 31 & 0xffff) : 0;
+}
+
+/* How many bytes of the text are used; 0 for a refusal. */
+static inline size_t dz_resolve_text_length(uint64_t answer)
+{
+    return dz_number(answer) == DZ_OK ? DZ_CAST(size_t, answer >> 47 & 0xffff) : 0;
+}
+
+/*
+ * dz_check - may this sheet be used for this document?
+ *
+ *   document, document_len         as in dz_resolve()
+ *   environment, environment_len   as in dz_resolve(): the same names and texts
+ *   trail, trail_len               the sheet: exactly its three parts, nothing
+ *   table, table_len               behind what is used of them
+ *   text, text_len
+ *
+ * All of it is only read. The sheet may come from anybody: every entry of its
+ * trail is worked out again from the entries before it, and compared. If the
+ * answer is yes, dz_resolve() with DZ_BUDGET_MAX and full-size buffers gives a
+ * table that means the same. What dz_resolve() hands back is accepted.
+ *
+ * Returns 0 for yes, or a refusal: bits 0 to 5 number, 6 to 21 place, the rest 0.
+ *
+ * Refusals: 1, also if a part of the sheet is over DZ_PART_MAX bytes, with place
+ * 0; 2 to 8, and 11 of a value without ${..}, with places as in dz_resolve(); and
+ *
+ *     17 DZ_NOT_ACCEPTED            The sheet is not one of this document and
+ *                                   environment, for whatever reason. Place 0.
+ */
+uint64_t dz_check(const uint8_t *document, size_t document_len,
+                  const uint8_t *environment, size_t environment_len,
+                  const uint8_t *trail, size_t trail_len,
+                  const uint8_t *table, size_t table_len,
+                  const uint8_t *text, size_t text_len);
+
+/* Whether an answer of dz_check() is yes. */
+static inline bool dz_check_accepted(uint64_t answer)
+{
+    return dz_number(answer) == DZ_OK;
+}
 
 /*
  * dz_look_up - find the value that a path names in a table
@@ -207,7 +516,7 @@ uint64_t dz_look_up(const uint8_t *table, size_t table_len,
 /* The refusal number of an answer of dz_look_up(), or DZ_OK if it was found. */
 static inline int dz_look_up_number(uint64_t answer)
 {
-    return (int)(answer & 0x3f);
+    return dz_number(answer);
 }
 
 /* Whether an answer of dz_look_up() is a value found. */
@@ -219,19 +528,19 @@ static inline bool dz_look_up_found(uint64_t answer)
 /* The offset of the value found in the table; 0 for a refusal. */
 static inline size_t dz_look_up_offset(uint64_t answer)
 {
-    return dz_look_up_found(answer) ? (size_t)(answer >> 6 & 0xffff) : 0;
+    return dz_look_up_found(answer) ? DZ_CAST(size_t, answer >> 6 & 0xffff) : 0;
 }
 
 /* The length of the value found, in bytes; 0 for a refusal, and only then. */
 static inline size_t dz_look_up_length(uint64_t answer)
 {
-    return dz_look_up_found(answer) ? (size_t)(answer >> 22 & 0xffff) : 0;
+    return dz_look_up_found(answer) ? DZ_CAST(size_t, answer >> 22 & 0xffff) : 0;
 }
 
 /* The place of a refusal; 0 for a value found. */
 static inline size_t dz_look_up_place(uint64_t answer)
 {
-    return dz_look_up_found(answer) ? 0 : (size_t)(answer >> 6 & 0xffff);
+    return dz_place(answer);
 }
 
 /*
@@ -281,14 +590,16 @@ uint64_t dz_length(const uint8_t *table, size_t table_len,
 /* The refusal number of an answer of dz_length(), or DZ_OK if it is a length. */
 static inline int dz_length_number(uint64_t answer)
 {
-    return (int)(answer & 0x3f);
+    return dz_number(answer);
 }
 
 /* The micrometres of a length; 0 for a refusal. */
 static inline uint32_t dz_length_micrometres(uint64_t answer)
 {
-    return (uint32_t)(answer >> 6 & 0xfffff);
+    return DZ_CAST(uint32_t, answer >> 6 & 0xfffff);
 }
+
+#undef DZ_CAST
 
 #ifdef __cplusplus
 }

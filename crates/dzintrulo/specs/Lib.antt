@@ -1,1 +1,2 @@
 pub mod LookUpJob
+pub mod ResolveJob

@@ -1,5 +1,5 @@
 // The jobs on lent byte slices, exported to C.
-// Computes: Jobs (lookUpJob, lengthJob)
+// Computes: Jobs (resolveJob, buffersOf, checkJob, lookUpJob, lengthJob)
 use codes::limits;
 use codes::refusals;
 use job_answers::Found;
@@ -12,8 +12,10 @@ ghost use Prim.Native.Nat.{_≤_};
 ghost use lib.ListN.{length};
 ghost use Rattle.rules.specs.Sizes.{maxRoom, maxPathText};
 ghost use Rattle.rules.specs.Paths.{pathText};
-ghost use Rattle.rules.specs.Jobs.{lookedUp, lookUpJob, lengthJob};
+ghost use Rattle.rules.specs.Jobs.{checkJob, lookedUp, lookUpJob, lengthJob};
+ghost use Rattle.job_resolved.specs.Answers.{packedVerdict};
 ghost use Rattle.job_answers.specs.Answers.{jobOf, partOf, packed};
+ghost use Rattle.dzintrulo.specs.ResolveJob.{PackedResolveIs};
 ghost use Rattle.job_length.specs.Packed.{packedLength};
 
 // What the path of a path text names. It is read into buffers of this function's own.
@@ -81,6 +83,38 @@ pub fn look_up<'a>(table: &'a [u8], text: &[u8], path: &[u8]) -> &'a [u8]
         }
         Found::Refused { number, place } => &table[0..0],
     }
+}
+
+/// Resolve for C.
+#[no_mangle]
+pub extern "C" fn dz_resolve(
+    document: &[u8],
+    environment: &[u8],
+    budget: u64,
+    trail: &mut [u8],
+    table: &mut [u8],
+    text: &mut [u8],
+) -> u64
+    ensures { λ r. ⌜ PackedResolveIs (now (document .entry)) (now (environment .entry)) budget
+        (now (trail .entry)) (now (table .entry)) (now (text .entry)) (now (trail .exit)) (now (table .exit)) (now (text .exit)) r ⌝ }
+{
+    let r = job_resolve::resolve(document, environment, budget, trail, table, text);
+    job_resolved::pack_resolution(r)
+}
+
+/// Check for C.
+#[no_mangle]
+pub extern "C" fn dz_check(
+    document: &[u8],
+    environment: &[u8],
+    trail: &[u8],
+    table: &[u8],
+    text: &[u8],
+) -> u64
+    ensures { λ r. ⌜ r ≡ packedVerdict (checkJob (now (document .entry)) (now (environment .entry))
+        (now (trail .entry)) (now (table .entry)) (now (text .entry))) ⌝ }
+{
+    job_resolved::pack_verdict(job_check::check(document, environment, trail, table, text))
 }
 
 /// Look-up for C.

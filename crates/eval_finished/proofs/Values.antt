@@ -17,6 +17,7 @@ use Rattle.sheet_kept.specs.Sets.{take-sets, drop-sets}
 use Rattle.sheet_kept.specs.Standing.{Stands, both-stand}
 use Rattle.sheet_forms.specs.declared.Form.{Form}
 use Rattle.sheet_forms.specs.Contracts.{twoBytes}
+use Rattle.sheet_layout.specs.Model.{lays}
 use Rattle.sheet_layout.specs.Contracts.{Holds, LayIs}
 use Rattle.sheet_layout.specs.Sheet.{lays-value}
 use Rattle.eval_writer.specs.Contracts.{Room, FilledIs, InRoom}
@@ -62,11 +63,18 @@ kept-value {room} {o} {p} {tb} {t} {b} {x} {a} A l g =
     let n = f .text in
     let h = A .records in
     let k = A .texts in
+    let xs = lays Form.Kept (o .rec .0) room (o .rec .0) 0 t in
+    let tx = take (o .text .0) (drop maxRecords room) in
+    let c : a ≡ sets (sets b p xs) (tb + t) tx =
+    g .is ∙ ap (λ (q : List ℕ). sets (back p b q) (tb + t) tx) (l .is) ∙ ap (λ (q : List ℕ). sets q (tb + t) tx) (part-set p b xs) in
     let e : (key : ℕ → Text) (v : Held) → InRoom key v room o → a ≡ sets (sets b p (kept key t v)) (tb + t) (texts (named key v)) =
     λ key v i.
-    g .is ∙ ap (λ (q : List ℕ). sets (back p b q) (tb + t) (take (o .text .0) (drop maxRecords room))) (l .is ∙ ap (sets (part p b) 0) (lays-value key v room (o .rec .0) (in-holds i) (omega arith) Form.Kept t))
-    ∙ ap (λ (q : List ℕ). sets q (tb + t) (take (o .text .0) (drop maxRecords room))) (part-set p b (kept key t v)) ∙ ap (sets (sets b p (kept key t v)) (tb + t)) (i .texts) in
+    c ∙ ap (λ (q : List ℕ). sets (sets b p q) (tb + t) tx) (lays-value key v room (o .rec .0) (in-holds i) (omega arith) Form.Kept t)
+    ∙ ap (sets (sets b p (kept key t v)) (tb + t)) (i .texts) in
     record {
+      laid = xs;
+      filled = tx;
+      only = c;
       bytes = e;
       stands = λ key v i d s.
           let z = in-sizes room o key v t f i in

@@ -38,8 +38,12 @@ pub record KeepAsked (b room : List ℕ) (p tb t : ℕ) (o : Out) : Type 0 where
   pub records : p + o .rec .0 ≤ length b
   pub texts : tb + t + o .text .0 ≤ length b
 
--- the records at p, the texts t behind their beginning; apart from each other they stand there, and the value can be copied
+-- the records at p, the texts t behind their beginning; apart from each other they stand there, and the value can be copied. Whatever the
+-- room holds, no other bytes change.
 pub record KeepIs (room : List ℕ) (o : Out) (p tb t : ℕ) (b a : List ℕ) : Type 0 where
+  pub laid : List ℕ
+  pub filled : List ℕ
+  pub only : a ≡ sets (sets b p laid) (tb + t) filled
   pub bytes : (key : ℕ → Text) (v : Held) → InRoom key v room o → a ≡ sets (sets b p (kept key t v)) (tb + t) (texts (named key v))
   pub stands : (key : ℕ → Text) (v : Held) → InRoom key v room o → (p + o .rec .0 ≤ tb + t) ⊎ (tb + t + o .text .0 ≤ p)
       → t + o .text .0 < twoBytes → Stands a tb (kept key t v) (texts (named key v)) p t

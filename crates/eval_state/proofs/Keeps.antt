@@ -6,8 +6,8 @@ use mathlib.Core.List.{List, [], _∷_}
 use mathlib.Core.Option.{some}
 use Prim.Native.Nat.{ℕ, _+_, _-_, _≤_, _<_}
 use native.Mathlib.Omega.{arith}
-use lib.ListN.{length, set, take, drop, length-drop}
-use lib.Seq.{sets, length-take-le}
+use lib.ListN.{length, getD, set, take, drop, length-drop}
+use lib.Seq.{sets, length-sets, length-take-le}
 use Rattle.answers.specs.Ask.{Trail}
 use Rattle.rules.specs.Bytes.{Text}
 use Rattle.rules.specs.Sizes.{maxRecords, maxText, maxRoom, maxUnresolved}
@@ -189,8 +189,16 @@ module _ {B room : List ℕ} {o : Out} {s : Bool} {h : ℕ} (A : PairAsked B roo
         (K .stands key v (F .in-room) (inl (omega (arith, f .rec))) (omega (arith, f .text))) (F .keys) (F .distinct)
         (omega (arith, f .rec)) (omega (arith, f .text)) (omega (arith, f .text)) (F .nesting)
 
+    front : (n d : ℕ) → n < pairRecordsAt → getD B′ n d ≡ getD B n d
+    front n d l =
+        ap (λ (Y : List ℕ). getD Y n d) (K .only) ∙ set-below (sets B (pairRecordsAt + h) (K .laid)) (pairTextsAt + h) (K .filled) n d (omega arith)
+        ∙ set-below B (pairRecordsAt + h) (K .laid) n d (omega arith)
+
     pub pair-kept : PairIs room o s B B′
     pair-kept = record {
+      len = ap length (K .only) ∙ length-sets (sets B (pairRecordsAt + h) (K .laid)) (pairTextsAt + h) (K .filled)
+          ∙ length-sets B (pairRecordsAt + h) (K .laid);
+      beside = front;
       kept = λ key items T v F. rw (sym (G .is)) (new-one key items T v F);
       other = λ key items T v w i l k. other-stays key items T v i w (halfOf (not s)) (rw (sym (G .is)) at (half-other s)) l k;
       state = λ x key items T S v i H. beside key items T v i x S H;

@@ -4,7 +4,7 @@ use mathlib.Core.Bool.{Bool, cond, not}
 use mathlib.Core.List.{List, _∷_}
 use mathlib.Core.Option.{none, some}
 use Prim.Native.Nat.{ℕ, _+_, _≤_, _<_}
-use lib.ListN.{length, set}
+use lib.ListN.{length, getD, set}
 use Rattle.answers.specs.Ask.{Trail}
 use Rattle.rules.specs.Bytes.{Text}
 use Rattle.rules.specs.Sizes.{maxNesting, maxRecords, maxUnresolved, maxRoom}
@@ -12,7 +12,7 @@ use Rattle.rules.specs.Values.{Value, Answer, recordSize, nestingOf}
 use Rattle.rules.specs.NamedValues.{Distinct}
 use Rattle.rules.specs.Sheet.{trailSize, trailTextSize}
 use Rattle.rules.specs.Documents.{Setting}
-use Rattle.doc_items.specs.Room.{answersAt}
+use Rattle.doc_items.specs.Room.{answersAt, bytesRoom}
 use Rattle.sheet_kept.specs.Kept.{Held, named}
 use Rattle.eval_writer.specs.Contracts.{InRoom}
 use Rattle.eval_writer.specs.declared.Out.{Out}
@@ -72,8 +72,11 @@ pub record PairAsked (B room : List ℕ) (o : Out) : Type 0 where
   pub full : Full room o
   pub bytes : jobBytes ≤ length B
 
--- the value stands there; the other one, and all that stands between two steps, stays
+-- the value stands there; the other one, and all that stands between two steps, stays. Whatever the room holds, no bytes before the pair
+-- change.
 pub record PairIs (room : List ℕ) (o : Out) (second : Bool) (B B′ : List ℕ) : Type 0 where
+  pub len : length B′ ≡ length B
+  pub beside : (n d : ℕ) → n < bytesRoom → getD B′ n d ≡ getD B n d
   pub kept : (key : ℕ → Text) (items : ℕ) (T : List ℕ) (v : Held) → Finished key items T room o v
       → KeptAt (pairOf key items T B′) (named key v) (halfOf second) (halfOf second)
   pub other : (key : ℕ → Text) (items : ℕ) (T : List ℕ) (v : Held) (w : Value) → InRoom key v room o → recordSize w ≤ maxRecords

@@ -1,3 +1,4 @@
 pub mod Contracts
-pub mod Standing
-pub mod Distinct
+pub mod Outcomes
+pub mod Parts
+pub mod Sole

@@ -1,7 +1,25 @@
-// What an unresolved value comes to against the answers so far, and what the function that works it out is to promise (specs/Contracts). The
-// function itself is to come; what it will call stands in the crates below.
+// What an unresolved value comes to against the answers so far: "One piece keeps its type"; several are joined, "pieces left to right".
+// Computes: Unresolved (answerOf)
+use codes::refusals;
 use eval_extents::Extent;
+use eval_join_steps::JoinStep;
+use eval_joins::join_answer;
+use eval_piece_items::is_sole;
+use eval_piece_values::PieceValue;
+use eval_piece_values::value_of;
+use eval_pieces::piece_of;
+use eval_pieces_joined::join_pieces;
+use eval_sizes::Answered;
+use eval_sizes::is_within;
+use eval_sizes::sized;
 use text_chars::DocAt;
+ghost use mathlib.Core.Path.{_≡_};
+ghost use Rattle.eval_questions.specs.Contracts.{Asked};
+ghost use Rattle.eval_questions.specs.Rules.{OnePiece};
+ghost use Rattle.eval_unresolved.specs.Contracts.{OutcomeIs};
+ghost use Rattle.eval_unresolved.specs.Outcomes.{OutcomeOfIs};
+ghost use Rattle.eval_unresolved.specs.declared.Outcome.{Outcome};
+ghost use Rattle.eval_unresolved.specs.Parts.{SoleAsked, OutcomeFor};
 
 /// What an unresolved value comes to.
 pub enum Outcome {
@@ -13,4 +31,104 @@ pub enum Outcome {
     Needs(usize),
     // a refusal; place 0 where it has none
     Refused { number: u8, place: DocAt },
+}
+
+// ---- the end
+
+fn too_large() -> Outcome
+    ensures { λ r. ⌜ r ≡ Outcome.Refused 13 (record { 0 = 0 }) ⌝ }
+{
+    Outcome::Refused {
+        number: refusals::TOO_LARGE,
+        place: DocAt(0),
+    }
+}
+
+// Where all that is needed is known. A value is tested, whatever the tables hold.
+fn outcome_of(answered: Answered) -> Outcome
+    ensures { λ r. ⌜ OutcomeOfIs answered r ⌝ }
+{
+    match answered {
+        Answered::Value(e) => {
+            if is_within(e) {
+                return Outcome::Done(e);
+            }
+            too_large()
+        }
+        Answered::Undefined => Outcome::Undefined,
+        Answered::TooLarge => too_large(),
+    }
+}
+
+// ---- one piece
+
+// The substitution that is the whole of an unresolved value.
+fn sole(
+    table: &[u16],
+    bytes: &[u8],
+    env: &[u8],
+    work: &mut [u16],
+    base: usize,
+    room: &mut [u8],
+    item: usize,
+) -> Outcome
+    requires { ⌜ SoleAsked (now bytes) (now env) (now work) (now room) base item ⌝ }
+    ensures { λ r. ⌜ OutcomeFor OnePiece (now (table .entry)) (now (env .entry)) base item (now (work .entry)) (now (work .exit))
+        (now (bytes .entry)) (now (bytes .entry)) r (now (room .exit)) ⌝ }
+{
+    let piece = piece_of(table, bytes, env, work, base, item, item + 1);
+    match value_of(table, bytes, env, work, base, room, piece) {
+        PieceValue::Done(e) => outcome_of(sized(e)),
+        PieceValue::Undefined => Outcome::Undefined,
+        PieceValue::Needs(b) => Outcome::Needs(b),
+        PieceValue::Missing(place) => Outcome::Refused {
+            number: refusals::UNDEFINED,
+            place,
+        },
+    }
+}
+
+// ---- several pieces
+
+// All pieces, joined.
+fn several(
+    table: &[u16],
+    bytes: &mut [u8],
+    env: &[u8],
+    work: &mut [u16],
+    base: usize,
+    room: &mut [u8],
+    item: usize,
+) -> Outcome
+    requires { ⌜ Asked (now bytes) (now env) (now work) (now room) base item ⌝ }
+    ensures { λ r. ⌜ OutcomeFor (λ ps. OnePiece ps → ⊥) (now (table .entry)) (now (env .entry)) base item (now (work .entry)) (now (work .exit))
+        (now (bytes .entry)) (now (bytes .exit)) r (now (room .exit)) ⌝ }
+{
+    match join_pieces(table, bytes, env, work, base, room, item) {
+        JoinStep::So(j) => outcome_of(join_answer(room, j)),
+        JoinStep::Needs(b) => Outcome::Needs(b),
+        JoinStep::Refused { number, place } => Outcome::Refused { number, place },
+    }
+}
+
+// ---- either
+
+/// The unresolved value at an item: its value is written into the room. The stack is free from base on.
+pub fn unresolved_value(
+    table: &[u16],
+    bytes: &mut [u8],
+    env: &[u8],
+    work: &mut [u16],
+    base: usize,
+    room: &mut [u8],
+    item: usize,
+) -> Outcome
+    requires { ⌜ Asked (now bytes) (now env) (now work) (now room) base item ⌝ }
+    ensures { λ r. ⌜ OutcomeIs (now (table .entry)) (now (env .entry)) base item (now (work .entry)) (now (work .exit))
+        (now (bytes .entry)) (now (bytes .exit)) r (now (room .exit)) ⌝ }
+{
+    if is_sole(table, item) {
+        return sole(table, bytes, env, work, base, room, item);
+    }
+    several(table, bytes, env, work, base, room, item)
 }

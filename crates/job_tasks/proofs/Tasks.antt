@@ -52,6 +52,7 @@ module _ {others : Bool} {s e T B T₁ B₁ : List ℕ} {r : Reading} (i : Input
               unbegun = p .unbegun;
               variables = read .3;
             },
+            read .2 .unresolved-are,
           );
           kept-table = l ∙ i .kept-table;
           kept-bytes = i .kept-text;

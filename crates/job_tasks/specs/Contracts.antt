@@ -8,7 +8,7 @@ use Prim.Native.Nat.{ℕ, _+_, _<_}
 use lib.ListN.{length}
 use Rattle.rules.specs.Sizes.{maxUnresolved}
 use Rattle.rules.specs.Environment.{Variable, entriesOf, textOf}
-use Rattle.rules.specs.Documents.{Setting, valid, inputs}
+use Rattle.rules.specs.Documents.{Setting, valid, inputs, countOf}
 use Rattle.doc_items.specs.Parts.{numbers}
 use Rattle.read_documents.specs.Contracts.{InputRefuses}
 use Rattle.read_documents.specs.declared.Reading.{Reading}
@@ -24,7 +24,7 @@ pub record Ready (others : Bool) (s e T B : List ℕ) (items : ℕ) (x : Setting
   pub variables : (es : List Variable) × (entriesOf e ≡ some es) × (x .environment ≡ textOf es)
 
 abbrev pub TaskCase : Bool → List ℕ → List ℕ → List ℕ → List ℕ → Reading → Type 0
-TaskCase others s e T B (Reading.Done items n) = (x : Setting) × Ready others s e T B items x
+TaskCase others s e T B (Reading.Done items n) = (x : Setting) × Ready others s e T B items x × (n ≡ countOf x)
 TaskCase others s e T B (Reading.Refused k p) = InputRefuses (inputs others s e) k p
 
 pub record TaskIs (others : Bool) (s e T B T′ B′ : List ℕ) (r : Reading) : Type 0 where

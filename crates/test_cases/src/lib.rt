@@ -1,5 +1,5 @@
-// What the programs that run vectors share: the parts of a vector on standard input, and numbers on standard output. A part is
-// a length of 4 bytes, high byte first, and then so many bytes.
+// What the programs that run vectors share: numbers and parts of a vector on standard input, and numbers on standard output. A number
+// is 4 bytes, high byte first; a part is its length, a number, and then so many bytes.
 use libc::STDIN_FILENO;
 use libc::STDOUT_FILENO;
 ghost use Prim.Native.Nat.{_<_};
@@ -32,6 +32,19 @@ fn read_bytes(buf: &mut [u8], length: usize) -> isize
         return -1;
     }
     length as isize
+}
+
+/// Reads the next number; -1 at the end of the input.
+pub fn read_number() -> isize {
+    let mut head = [0u8; 4];
+    let got = io::read_full(STDIN_FILENO, &mut head);
+    if got == 4 {
+        return length_of(&head) as isize;
+    }
+    if got > 0 {
+        io::write_all(STDOUT_FILENO, b"a number is cut off\n");
+    }
+    -1
 }
 
 /// Reads the next part into buf, and answers how many bytes it has; -1 at the end of the input too.

@@ -106,7 +106,7 @@ module _ (known : ℕ → Option Answer) where
 -- ---- unresolved values as they are listed
 
 module _ (P : Pieces → Type 0) where
-  abbrev Of : Unresolved → Type 0
+  abbrev pub Of : Unresolved → Type 0
   Of u = P (u .pieces)
 
   mutual
@@ -118,11 +118,11 @@ module _ (P : Pieces → Type 0) where
     listed-node openness (object fs) a = listed-fields fs openness no-fields a
     listed-node openness (unresolved b ps) a = (a .0, listed-pieces ps (a .1))
 
-    listed-elements : (es : Elements) → AllElements (λ b ps. P ps) es → Each Of (inElements es)
+    pub listed-elements : (es : Elements) → AllElements (λ b ps. P ps) es → Each Of (inElements es)
     listed-elements no-elements a = tt
     listed-elements (element n es) a = each-append Of (inNode none n) (inElements es) (listed-node none n (a .0)) (listed-elements es (a .1))
 
-    listed-fields : (fs : Fields) (openness : Openness) (earlier : Fields) → AllFields (λ b ps. P ps) fs → Each Of (inFields fs openness earlier)
+    pub listed-fields : (fs : Fields) (openness : Openness) (earlier : Fields) → AllFields (λ b ps. P ps) fs → Each Of (inFields fs openness earlier)
     listed-fields no-fields openness earlier a = tt
     listed-fields (field k n fs) openness earlier a =
         each-append Of (inNode (fieldOpenness openness earlier k) n) (inFields fs openness (withField earlier k n))

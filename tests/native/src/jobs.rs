@@ -1,5 +1,4 @@
-//! The exported resolve and check as Rust calls them. The archive does not have them yet: this is compiled with the feature
-//! `jobs` alone.
+//! The exported resolve and check as Rust calls them.
 
 use crate::plain_resolve::Sheet;
 use crate::Refusal;

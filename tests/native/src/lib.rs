@@ -1,7 +1,6 @@
 //! The exported jobs and lengths as Rust calls them, and what the tests hold them against.
 
 pub mod documents;
-#[cfg(feature = "jobs")]
 pub mod jobs;
 pub mod lengths;
 pub mod plain;

@@ -1,7 +1,5 @@
 //! Resolve and check: the library against the plain resolver, on seeded random documents. DZINTRULO_SEED and
-//! DZINTRULO_COUNT set another seed and count. The archive does not have the two jobs yet: this is compiled with the
-//! feature `jobs` alone.
-#![cfg(feature = "jobs")]
+//! DZINTRULO_COUNT set another seed and count.
 
 use native::{documents, jobs, plain_resolve, random::Random, sheets};
 use std::{collections::BTreeMap, env, io::Write};

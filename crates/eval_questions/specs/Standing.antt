@@ -1,13 +1,13 @@
 -- The pieces of an unresolved value in a job's memory, one behind the other: what each of them gives its reader.
 use mathlib.Core.Path.{_≡_, refl, sym, ap, subst, _∙_}
-use mathlib.Core.Logic.{_⊎_, inl, inr}
+use mathlib.Core.Logic.{inr}
 use mathlib.Core.Bool.{Bool, true, false}
-use Prim.Native.Nat.{ℕ, zero, suc, _+_, _*_, _≤_, _<_}
+use Prim.Native.Nat.{ℕ, _+_, _*_, _≤_, _<_}
 use mathlib.Core.List.{List}
-use mathlib.Core.Option.{Option, none, some}
+use mathlib.Core.Option.{some}
 use native.Mathlib.Omega.{arith}
 use lib.Dec.{eqb}
-use lib.ListN.{length, getD, getElem?}
+use lib.ListN.{getD, getElem?}
 use borrow.Author.Tests.{eqb-true, eqb-false}
 use Rattle.answers.specs.Ask.{Trail, lookup}
 use Rattle.rules.specs.Bytes.{Text}
@@ -20,20 +20,20 @@ use Rattle.theory.specs.Depths.{shallow-within}
 use Rattle.theory.specs.Reach.{Each, each-at}
 use Rattle.theory.specs.Rules.{top, Listed, all-listed}
 use Rattle.theory_back.specs.Numbers.{from-read}
-use Rattle.doc_items.specs.Codes.{asMember, asPiece, kindAt, sizeAt, nextAt, numberAt}
+use Rattle.doc_items.specs.Codes.{asMember, asPiece, numberAt}
 use Rattle.doc_items.specs.Holds.{PiecesAt, Shown}
 use Rattle.doc_items.specs.Joining.{Simples}
 use Rattle.doc_items.specs.Parts.{numbers, letters}
 use Rattle.doc_items.specs.Room.{textRoom}
-use Rattle.read_numbering.specs.Contracts.{PathsFit, itemOf}
+use Rattle.read_numbering.specs.Contracts.{PathsFit}
 use Rattle.eval_tables.specs.Finished.{Memory}
 use Rattle.eval_tables.specs.Tables.{Number, Role, WrittenAt}
 use Rattle.eval_references.specs.Documents as references
 use Rattle.eval_joins.specs.Standing.{PieceAt, piece-at}
 use Rattle.eval_state.specs.Memories.{answersOf}
-use Rattle.eval_state.specs.State.{State, state-tables}
+use Rattle.eval_state.specs.State.{state-tables}
 use Rattle.eval_pieces.specs.Contracts.{ReferenceGiven, LiteralGiven}
-use Rattle.eval_unresolved.specs.Contracts.{PiecesFit, Questioned}
+use Rattle.eval_questions.specs.Contracts.{PiecesFit, Questioned}
 
 module _ {x : Setting} {key : ℕ → Text} {items : ℕ} {T B E : List ℕ} {S : Trail Answer} {base item b : ℕ} {u : Unresolved}
     (Q : Questioned x key items T B E S base item b u) where

@@ -1,0 +1,134 @@
+// The entries of a lent trail, one after another: each is evaluated against those that were found right before it.
+// Computes: Checking (entriesFrom)
+use check_entries::Checked;
+use check_entries::Next;
+use check_entries::Reached;
+use check_entries::check_answer;
+use check_entries::check_undefined;
+use check_entries::next_number;
+use eval_index::item_of;
+use eval_unresolved::Outcome;
+use eval_unresolved::unresolved_value;
+use text_chars::RecAt;
+use text_chars::TextAt;
+ghost use Rattle.check_trails.specs.Contracts.{CaseAsked, CaseIs, NumberAsked, NumberIs, EntryAsked, EntryIs, TrailAsked, TrailIs};
+
+// The outcome of question b held against its entry; a value of it is in the room.
+fn check_outcome(
+    table: &mut [u16],
+    bytes: &mut [u8],
+    room: &[u8],
+    outcome: Outcome,
+    b: usize,
+    at: Reached,
+    trail: &[u8],
+    text: &[u8],
+) -> Checked
+    requires { ⌜ CaseAsked (now table) (now bytes) (now room) outcome b at (now trail) (now text) ⌝ }
+    ensures { λ r. ⌜ CaseIs (now (room .entry)) outcome b at (now (trail .entry)) (now (text .entry))
+        (now (table .entry)) (now (table .exit)) (now (bytes .entry)) (now (bytes .exit)) r ⌝ }
+{
+    match outcome {
+        Outcome::Done(e) => {
+            let o = e.out;
+            check_answer(table, bytes, room, o, b, at, trail, text)
+        }
+        Outcome::Undefined => check_undefined(table, b, at, trail),
+        Outcome::Needs(d) => Checked::Wrong,
+        Outcome::Refused { number, place } => Checked::Wrong,
+    }
+}
+
+// What an entry comes to whose number b has no answer yet.
+fn check_number(
+    table: &mut [u16],
+    bytes: &mut [u8],
+    environment: &[u8],
+    work: &mut [u16],
+    room: &mut [u8],
+    b: usize,
+    at: Reached,
+    trail: &[u8],
+    text: &[u8],
+) -> Checked
+    requires { ⌜ NumberAsked (now table) (now bytes) (now environment) (now work) (now room) b at (now trail) (now text) ⌝ }
+    ensures { λ r. ⌜ NumberIs (now (environment .entry)) b at (now (trail .entry)) (now (text .entry))
+        (now (table .entry)) (now (table .exit)) (now (bytes .entry)) (now (bytes .exit)) r ⌝ }
+{
+    let item = item_of(table, b);
+    let outcome = unresolved_value(table, bytes, environment, work, 0, room, item);
+    check_outcome(table, bytes, room, outcome, b, at, trail, text)
+}
+
+// The entry that begins behind those so far.
+fn check_entry(
+    table: &mut [u16],
+    bytes: &mut [u8],
+    environment: &[u8],
+    work: &mut [u16],
+    room: &mut [u8],
+    count: usize,
+    at: Reached,
+    trail: &[u8],
+    text: &[u8],
+) -> Checked
+    requires { ⌜ EntryAsked (now table) (now bytes) (now environment) (now work) (now room) count at (now trail) (now text) ⌝ }
+    ensures { λ r. ⌜ EntryIs (now (environment .entry)) count at (now (trail .entry)) (now (text .entry))
+        (now (table .entry)) (now (table .exit)) (now (bytes .entry)) (now (bytes .exit)) r ⌝ }
+{
+    let used = at.used;
+    match next_number(table, trail, used, count) {
+        Next::Number(b) => check_number(table, bytes, environment, work, room, b, at, trail, text),
+        Next::Wrong => Checked::Wrong,
+    }
+}
+
+/// All entries of a trail, in a document of so many unresolved values.
+pub fn check_trail(
+    table: &mut [u16],
+    bytes: &mut [u8],
+    environment: &[u8],
+    work: &mut [u16],
+    room: &mut [u8],
+    count: usize,
+    trail: &[u8],
+    text: &[u8],
+) -> Checked
+    requires { ⌜ TrailAsked (now table) (now bytes) (now environment) (now work) (now room) count (now trail) (now text) ⌝ }
+    ensures { λ r. ⌜ TrailIs (now (environment .entry)) count (now (trail .entry)) (now (text .entry))
+        (now (table .entry)) (now (table .exit)) (now (bytes .entry)) (now (bytes .exit)) (now (work .exit)) (now (room .exit)) r ⌝ }
+{
+    let mut used = 0;
+    let mut texts = 0;
+    while used < trail.len() {
+        let at = Reached {
+            used: RecAt(used),
+            text: TextAt(texts),
+        };
+        match check_entry(
+            table,
+            bytes,
+            environment,
+            work,
+            room,
+            count,
+            at,
+            trail,
+            text,
+        ) {
+            Checked::Wrong => {
+                return Checked::Wrong;
+            }
+            Checked::On(next) => {
+                let u = next.used;
+                let t = next.text;
+                used = u.0;
+                texts = t.0;
+            }
+        }
+    }
+    Checked::On(Reached {
+        used: RecAt(used),
+        text: TextAt(texts),
+    })
+}

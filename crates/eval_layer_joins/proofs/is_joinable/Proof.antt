@@ -1,0 +1,13 @@
+-- laws: ordering
+use Rattle.eval_layer_joins.proofs.Returns.{ordering}
+use borrow.Author.Needs.{needs}
+use Rattle.eval_layer_joins.proofs.is_joinable.Statement.{statement}
+use Rattle.eval_layer_joins.proofs.is_joinable.Tie as tie
+
+pub is-joinable-spec : {M : Type 1} → statement M
+is-joinable-spec =
+    tie.close
+    (tie.spec
+    (λ c. search ordering)
+    (λ c. search ordering)
+    (λ c. search ordering))

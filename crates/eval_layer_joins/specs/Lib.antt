@@ -1,0 +1,4 @@
+pub mod Contracts
+pub mod Steps
+pub mod Elements
+pub mod Layers

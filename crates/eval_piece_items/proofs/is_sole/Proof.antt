@@ -1,0 +1,23 @@
+-- laws: sole-laws
+use Rattle.eval_piece_items.proofs.Returns.{sole-laws}
+use borrow.Author.Needs.{needs}
+use Rattle.eval_piece_items.proofs.is_sole.Statement.{statement}
+use Rattle.eval_piece_items.proofs.is_sole.Tie as tie
+
+pub is-sole-spec : {M : Type 1} → statement M
+is-sole-spec =
+    tie.close
+    (tie.spec
+    (λ c κs. search needs)
+    (λ c. search needs)
+    (λ c. search sole-laws)
+    (λ c. search needs)
+    (λ c κs. search needs)
+    (λ c. search needs)
+    (λ c. search sole-laws)
+    (λ c. search needs)
+    (λ c. search needs)
+    (λ c κs. search needs)
+    (λ c. search needs)
+    (λ c. search sole-laws)
+    (λ c. search sole-laws))

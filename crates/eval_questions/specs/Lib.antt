@@ -1,0 +1,3 @@
+pub mod Contracts
+pub mod Rules
+pub mod Standing

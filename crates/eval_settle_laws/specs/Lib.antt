@@ -1,0 +1,9 @@
+pub mod Ready
+pub mod Contracts
+pub mod Rooms
+pub mod Readying
+pub mod Nodes
+pub mod Elements
+pub mod Listing
+pub mod Fields
+pub mod Keys

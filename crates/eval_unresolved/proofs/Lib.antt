@@ -1,0 +1,2 @@
+mod Returns
+mod Joined

@@ -1,0 +1,71 @@
+-- What the rules' answer is as an outcome: a value in the room that may be kept, undefined, or over its size.
+use mathlib.Core.Path.{_≡_, refl, sym, ap, subst, _∙_}
+use Prim.Native.Nat.{ℕ}
+use mathlib.Core.Bool.{Bool, true, false, cond}
+use mathlib.Core.List.{List}
+use mathlib.Core.Option.{some}
+use native.Mathlib.Omega.{arith}
+use Rattle.answers.specs.Ask.{value}
+use Rattle.rules.specs.Bytes.{Text}
+use Rattle.rules.specs.Refusals.{nowhere}
+use Rattle.rules.specs.Values.{Value, Answer, withinSize}
+use Rattle.rules.specs.NamedValues.{Distinct}
+use Rattle.rules.specs.Settled.{Given}
+use Rattle.eval_extents.specs.declared.Extent.{Extent}
+use Rattle.eval_sizes.specs.Contracts.{withinC}
+use Rattle.eval_sizes.specs.Answers.{ValueIn, AnswerCase, AnsweredIs, within-nesting, within-records, within-texts, value-within, value-stands}
+use Rattle.eval_sizes.specs.declared.Answered.{Answered}
+use Rattle.eval_join_steps.specs.Contracts.{Good}
+use Rattle.eval_unresolved.specs.Contracts.{ValueDone, OutcomeCase, OutcomeWithin}
+use Rattle.eval_unresolved.specs.declared.Outcome.{Outcome}
+
+abbrev tooLarge : Outcome
+tooLarge = Outcome.Refused 13 (record { 0 = 0 })
+
+-- whatever the tables hold, a value is tested
+unfoldable pub outcomeC : Answered → Outcome
+unfolding withinC
+outcomeC (Answered.Value e) = cond (withinC e) (Outcome.Done e) tooLarge
+outcomeC Answered.Undefined = Outcome.Undefined
+outcomeC Answered.TooLarge = tooLarge
+
+pub record OutcomeOfIs (q : Answered) (r : Outcome) : Type 0 where
+  pub is : r ≡ outcomeC q
+
+pub outcome-within : {r : Outcome} (q : Answered) → OutcomeOfIs q r → OutcomeWithin r
+unfolding outcomeC
+outcome-within {r} q h = rw (h .is) (all q)
+  where
+    all : (q : Answered) → OutcomeWithin (outcomeC q)
+    all (Answered.Value e) = go (withinC e) refl
+      where
+        go : (t : Bool) → withinC e ≡ t → OutcomeWithin (cond t (Outcome.Done e) tooLarge)
+        go true w = (within-records e w, within-texts e w)
+        go false w = tt
+    all Answered.Undefined = tt
+    all Answered.TooLarge = tt
+
+module _ {key : ℕ → Text} (items : ℕ) {T room : List ℕ} where
+  value-done : {g : Given Answer} {e : Extent} {v : Value} → g ≡ value (some v) → Distinct v → ValueIn key (Good T items) room e v → withinC e ≡ true
+      → ValueDone key items T room g e
+  value-done {g} {e} {v} q d h w = record {
+    held = h .held;
+    is = q ∙ ap (λ (y : Value). value (some y)) (sym (h .is));
+    finished = record {
+      in-room = value-stands h w;
+      keys = h .good;
+      distinct = subst (λ (y : Value). Distinct y) (sym (h .is)) d;
+      nesting = omega (arith, h .came .deep, within-nesting e w);
+    };
+    within = ap withinSize (h .is) ∙ sym (value-within h) ∙ w;
+  }
+
+  pub outcome-is : {g : Given Answer} {r : Outcome} (q : Answered) → AnsweredIs key (Good T items) room g q → ((v : Value) → g ≡ value (some v) → Distinct v)
+      → OutcomeOfIs q r → OutcomeCase key items T room g r
+  unfolding outcomeC
+  outcome-is {g} {r} q h d o = rw (o .is) (all q (h .is))
+    where
+      all : (q : Answered) → AnswerCase key (Good T items) room g q → OutcomeCase key items T room g (outcomeC q)
+      all (Answered.Value e) (v, z, y, w) = rw (outcomeC, w) (value-done z (d v z) y w)
+      all Answered.Undefined z = z
+      all Answered.TooLarge z = record { refusal = nowhere 13; is = z; its-number = refl; its-place = refl }

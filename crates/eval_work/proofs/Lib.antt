@@ -1,0 +1,4 @@
+mod Turns
+mod Lists
+mod Loop
+mod Working
