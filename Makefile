@@ -1,0 +1,65 @@
+# The tool and the demo panel over the proved archive; ./dzintrulo calls this. CC, CFLAGS and LDFLAGS are honoured.
+#
+#   make                            builds target/tool/dzintrulo, and first the archive if a crate has changed (rt, minutes)
+#   make ARCHIVE=libdzintrulo.a     takes an archive as it is: no rt is needed
+#   make install PREFIX=/usr/local DESTDIR=
+#   make check                      the whole gate, ./test
+.POSIX:
+.PHONY: all lib check install uninstall clean FORCE
+
+CC = cc
+CFLAGS = -O2
+LDFLAGS =
+LDLIBS =
+PREFIX = /usr/local
+DESTDIR =
+
+BUILT = target/staticlib/libdzintrulo.a
+ARCHIVE = $(BUILT)
+OUT = target/tool
+FLAGS = -std=c99 -Wall -Wextra -Wpedantic -Iinclude
+HEADERS = include/dzintrulo.h include/dzintrulo_sheet.h
+SOURCES = tool/main.c tool/args.c tool/read.c tool/env.c tool/text.c tool/json.c tool/trace.c tool/diag.c tool/ask.c \
+	tool/words.c tool/place_words.c tool/path_words.c tool/differ.c tool/explain.c tool/sheet.c tool/resolve.c tool/get.c \
+	tool/trail.c tool/dump.c
+
+all: $(OUT)/dzintrulo $(OUT)/panel
+
+lib: $(ARCHIVE)
+
+# Only rt knows what the archive is made of: the script looks whether anything is newer, and writes nothing if not.
+$(BUILT): FORCE
+	@tool/archive $(BUILT)
+
+FORCE:
+
+$(OUT)/dzintrulo: $(SOURCES) tool/tool.h $(HEADERS) $(ARCHIVE)
+	@mkdir -p $(OUT)
+	@echo 'dzintrulo: compiling the tool' >&2
+	logic=$$(LC_ALL=C tr -c '[:print:]' '\n' <$(ARCHIVE) | sed -n 's/^rattle //p' | sed -n 1p); \
+	$(CC) $(FLAGS) $(CFLAGS) -DLOGIC="\"$${logic:-logic unknown}\"" $(LDFLAGS) -o $@ $(SOURCES) $(ARCHIVE) $(LDLIBS)
+
+$(OUT)/panel: panel/panel.c $(HEADERS) $(ARCHIVE)
+	@mkdir -p $(OUT)
+	$(CC) $(FLAGS) $(CFLAGS) $(LDFLAGS) -o $@ panel/panel.c $(ARCHIVE) $(LDLIBS)
+
+check:
+	./test
+
+install: all
+	mkdir -p $(DESTDIR)$(PREFIX)/bin $(DESTDIR)$(PREFIX)/include $(DESTDIR)$(PREFIX)/lib/pkgconfig $(DESTDIR)$(PREFIX)/share/man/man1
+	cp $(OUT)/dzintrulo $(DESTDIR)$(PREFIX)/bin/dzintrulo
+	cp $(HEADERS) $(DESTDIR)$(PREFIX)/include
+	cp $(ARCHIVE) $(DESTDIR)$(PREFIX)/lib/libdzintrulo.a
+	version=$$(sed -n 's/^#define DZINTRULO_VERSION "\(.*\)"/\1/p' include/dzintrulo.h); \
+	sed -e 's|@PREFIX@|$(PREFIX)|' -e "s|@VERSION@|$$version|" tool/dzintrulo.pc.in >$(DESTDIR)$(PREFIX)/lib/pkgconfig/dzintrulo.pc
+	cp tool/dzintrulo.1 $(DESTDIR)$(PREFIX)/share/man/man1/dzintrulo.1
+
+uninstall:
+	rm -f $(DESTDIR)$(PREFIX)/bin/dzintrulo $(DESTDIR)$(PREFIX)/include/dzintrulo.h \
+		$(DESTDIR)$(PREFIX)/include/dzintrulo_sheet.h $(DESTDIR)$(PREFIX)/lib/libdzintrulo.a \
+		$(DESTDIR)$(PREFIX)/lib/pkgconfig/dzintrulo.pc $(DESTDIR)$(PREFIX)/share/man/man1/dzintrulo.1
+
+# What is proved stays: only the C programs go.
+clean:
+	rm -rf $(OUT)
