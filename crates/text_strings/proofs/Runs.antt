@@ -20,6 +20,8 @@ use Rattle.text_chars.specs.declared.DocAt.{DocAt}
 use Rattle.text_chars.specs.declared.Cursor.{Cursor}
 use Rattle.text_chars.specs.declared.Step.{Step}
 use Rattle.text_escapes.specs.Contracts.{expectScan, ExpectFar, ExpectIs}
+use Rattle.text_runs.specs.Contracts.{Passed, none, on, RawRunIs}
+use Rattle.text_runs.specs.Passing.{goes-over}
 use Rattle.text_units.specs.Contracts.{WriteIs}
 use Rattle.text_escapes.specs.Contracts.{sized}
 use Rattle.text_strings.specs.Contracts.{ThreeSays, ThreeIs, RunSays, RunIs, AfterIs, rawFrom, RawIs}
@@ -99,30 +101,49 @@ pub record RunLoop (s : List ℕ) (at₀ at : ℕ) : Type 0 where
 pub run-start : {s : List ℕ} {at : ℕ} → RunLoop s at at
 run-start = record { is = refl; low = omega arith }
 
-module _ {s : List ℕ} {at₀ at : ℕ} (I : RunLoop s at₀ at) {q : Three} (h : ThreeIs s at q) where
-  pub run-found : {c d : Cursor} → c .at .0 ≡ at → q ≡ Three.Past d → RunIs s at₀ (Run.At c)
-  run-found {c} {d} e f =
-      let z : ThreeSays s at (Three.Past d) = rw f at (h .says) in
-      let i : at < length s = omega arith in
-      let off : (ltb at (length s) && not (threeQuotes s at)) ≡ false = rw (lt-ltb at (length s) i, z .0) in
-      record { says = (e ∙ sym (I .is ∙ run-off s at off), rw e (z .0), omega (arith, I .low), omega arith) }
+three-no : (s : List ℕ) (p : ℕ) → eqb (byteAt s p) 34 ≡ false → threeQuotes s p ≡ false
+unfolding threeQuotes
+three-no s p e = rw (e, threeQuotes)
 
-  module _ (f : q ≡ Three.Not) {r : Step} (k : StepIs s at r) where
-    pub run-end : r ≡ Step.End → RunIs s at₀ Run.Nowhere
+-- no quote is passed on the way to one
+run-passed : {s : List ℕ} {at p : ℕ} → Passed 0 34 s at p → quotesRun s at ≡ quotesRun s p
+run-passed none = refl
+run-passed {s} (on {p} k i g e) =
+    let no : threeQuotes s p ≡ false = three-no s p (goes-over 0 34 (byteAt s p) g .quote) in
+    let goes : (ltb p (length s) && not (threeQuotes s p)) ≡ true = rw (lt-ltb p (length s) i, no) in
+    run-passed k ∙ run-on s p goes ∙ ap (quotesRun s) (sym e)
+
+run-over : {s : List ℕ} {at₀ at : ℕ} {c : Cursor} → RunLoop s at₀ at → RawRunIs s at c → RunLoop s at₀ (c .at .0)
+run-over I r = record { is = I .is ∙ run-passed (r .passed); low = omega (arith, I .low, r .forward) }
+
+module _ {s : List ℕ} {at₀ at : ℕ} (before : RunLoop s at₀ at) {c : Cursor} (r : RawRunIs s at c) {q : Three} (h : ThreeIs s (c .at .0) q) where
+  I : RunLoop s at₀ (c .at .0)
+  I = run-over before r
+
+  pub run-found : {d : Cursor} → q ≡ Three.Past d → RunIs s at₀ (Run.At c)
+  run-found {d} f =
+      let z : ThreeSays s (c .at .0) (Three.Past d) = rw f at (h .says) in
+      let i : c .at .0 < length s = omega arith in
+      let off : (ltb (c .at .0) (length s) && not (threeQuotes s (c .at .0))) ≡ false = rw (lt-ltb (c .at .0) (length s) i, z .0) in
+      record { says = (sym (I .is ∙ run-off s (c .at .0) off), z .0, I .low, i) }
+
+  module _ (f : q ≡ Three.Not) {t : Step} (k : StepIs s (c .at .0) t) where
+    pub run-end : t ≡ Step.End → RunIs s at₀ Run.Nowhere
     run-end e =
-        let p : length s ≤ at = at-end k e in
-        let off : (ltb at (length s) && not (threeQuotes s at)) ≡ false = rw (le-ltb at (length s) p) in
-        record { says = rw (I .is ∙ run-off s at off) p }
+        let p : length s ≤ c .at .0 = at-end k e in
+        let off : (ltb (c .at .0) (length s) && not (threeQuotes s (c .at .0))) ≡ false = rw (le-ltb (c .at .0) (length s) p) in
+        record { says = rw (I .is ∙ run-off s (c .at .0) off) p }
 
-    pub run-turn : {ch : ℕ} {c : Cursor} → r ≡ Step.Char ch c → RunLoop s at₀ (c .at .0)
-    run-turn {ch} {c} e =
+    pub run-turn : {ch : ℕ} {d : Cursor} → t ≡ Step.Char ch d → RunLoop s at₀ (d .at .0)
+    run-turn {ch} {d} e =
         let z = seen k e in
-        let no : ThreeSays s at Three.Not = rw f at (h .says) in
-        let on : (ltb at (length s) && not (threeQuotes s at)) ≡ true = rw (lt-ltb at (length s) (z .within), no) in
-        record { is = I .is ∙ run-on s at on ∙ ap (quotesRun s) (sym (z .past)); low = omega (arith, I .low, z .forward) }
+        let no : ThreeSays s (c .at .0) Three.Not = rw f at (h .says) in
+        let on : (ltb (c .at .0) (length s) && not (threeQuotes s (c .at .0))) ≡ true = rw (lt-ltb (c .at .0) (length s) (z .within), no) in
+        record { is = I .is ∙ run-on s (c .at .0) on ∙ ap (quotesRun s) (sym (z .past)); low = omega (arith, I .low, z .forward) }
 
-pub step-less : (s : List ℕ) (at : ℕ) {r : Step} {ch : ℕ} {c : Cursor} → StepIs s at r → r ≡ Step.Char ch c → length s - c .at .0 < length s - at
-step-less s at k e = let z = seen k e in omega (arith, z .within, z .forward)
+pub step-less : (s : List ℕ) (at : ℕ) {c : Cursor} {t : Step} {ch : ℕ} {d : Cursor} → RawRunIs s at c → StepIs s (c .at .0) t → t ≡ Step.Char ch d
+    → length s - d .at .0 < length s - at
+step-less s at r k e = let z = seen k e in omega (arith, r .forward, z .within, z .forward)
 
 pub ruleset runs = (run-start, run-found, run-end, run-turn, step-less)
 

@@ -14,6 +14,7 @@ use text_escapes::Expected;
 use text_escapes::Quoted;
 use text_escapes::escape;
 use text_escapes::expect;
+use text_runs::plain_end;
 use text_units::copy;
 use triple::Three;
 use triple::raw;
@@ -71,7 +72,7 @@ fn next_piece(s: &[u8], c: Cursor, out: &mut [u8]) -> Piece
     }
 }
 
-// The text from behind the first quote on, up to the closing one.
+// The text from behind the first quote on, up to the closing one: runs of ordinary characters, and a piece behind each.
 fn body(s: &[u8], c: Cursor, out: &mut [u8]) -> Quoted
     requires { ⌜ (length (now s) ≤ maxDocument) × (c .at .0 ≤ length (now s)) × (length (now s) - c .at .0 ≤ length (now out)) ⌝ }
     ensures { λ r. ⌜ BodyIs (now (s .entry)) (c .at .0) (now (out .entry)) (now (out .exit)) r ⌝ }
@@ -79,7 +80,12 @@ fn body(s: &[u8], c: Cursor, out: &mut [u8]) -> Quoted
     let mut at = c;
     let mut used: usize = 0;
     loop {
-        match next_piece(s, at, &mut out[used..]) {
+        let run = plain_end(s, at);
+        let from = at.at;
+        let to = run.at;
+        let n = copy(s, from, to, &mut out[used..]);
+        used += n;
+        match next_piece(s, run, &mut out[used..]) {
             Piece::Refused { number, place } => {
                 return Quoted::Refused { number, place };
             }

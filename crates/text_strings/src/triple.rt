@@ -9,6 +9,7 @@ use text_chars::TextLen;
 use text_escapes::Expected;
 use text_escapes::Quoted;
 use text_escapes::expect;
+use text_runs::raw_end;
 use text_units::copy;
 ghost use Prim.Native.Nat.{_-_, _≤_};
 ghost use lib.ListN.{length};
@@ -53,11 +54,12 @@ fn find_run(s: &[u8], c: Cursor) -> Run
 {
     let mut at = c;
     loop {
-        match three_quotes(s, at) {
+        let quote = raw_end(s, at);
+        match three_quotes(s, quote) {
             Three::Past(next) => {
-                return Run::At(at);
+                return Run::At(quote);
             }
-            Three::Not => match at.step(s) {
+            Three::Not => match quote.step(s) {
                 Step::End => {
                     return Run::Nowhere;
                 }

@@ -1,5 +1,5 @@
 -- laws: bodies
-use Rattle.text_strings.proofs.Bodies.{bodies}
+use Rattle.text_strings.proofs.Bodies.{bodies, sums}
 use Prim.Native.Nat.{_-_}
 use lib.ListN.{length}
 use Rattle.text_strings.proofs.Bodies.{BodyLoop}
@@ -20,10 +20,16 @@ body-spec =
     Inv-loop
     μ-loop
     (λ c. search bodies)
-    (λ c. search needs)
-    (λ c. search needs)
-    (λ c. search needs)
     (λ c κs. search needs)
+    (λ c. search bodies)
+    (λ c. search bodies)
+    (λ c. search bodies)
+    (λ c κs. search bodies)
+    (λ c. search bodies)
+    (λ c. search bodies)
+    (λ c. search bodies)
+    (λ c. search bodies)
+    (λ c κs. search bodies)
     (λ c. search needs)
     (λ c. search needs)
     (λ c. search bodies)
@@ -31,6 +37,6 @@ body-spec =
     (λ c. search needs)
     (λ c. search bodies)
     (λ c. search needs)
-    (λ c. search bodies)
+    (λ c. search sums)
     (λ c. search bodies)
     (λ c. search bodies))

@@ -21,6 +21,7 @@ find-run-spec =
     μ-loop
     (λ c. search runs)
     (λ c κs. search needs)
+    (λ c κs. search needs)
     (λ c. search needs)
     (λ c. search runs)
     (λ c. search needs)
