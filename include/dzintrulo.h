@@ -458,8 +458,9 @@ static inline bool dz_check_accepted(uint64_t answer)
  *     triple quotes, which take everything raw. A dot inside quotes is part of
  *     the name, and so is anything else that a path does not allow outside
  *     quotes. An empty name has to be quoted.
- *   - Whitespace (bytes 09 to 0D, 1C to 1F, 20) around the whole path is
- *     dropped; elsewhere it is part of the names: `a . b` has the names "a "
+ *   - Whitespace (bytes 09 to 0D, 1C to 1F, 20, Unicode's other spaces and
+ *     separators, categories Zs, Zl and Zp, and U+FEFF) around the whole path
+ *     is dropped; elsewhere it is part of the names: `a . b` has the names "a "
  *     and " b". A newline (0A) is not allowed outside quotes.
  *   - A digit or '-' that starts a piece of a name (at the start of the path,
  *     and after whitespace, a quoted piece, a number or one of the words true,
@@ -555,7 +556,7 @@ static inline size_t dz_look_up_place(uint64_t answer)
  * threads.
  *
  * A length is a string: a decimal number in JSON's form without exponent, then
- * whitespace (bytes 09 to 0D, 1C to 1F, 20) or none, then mm, um or in, and
+ * whitespace as in a path, newlines too, or none, then mm, um or in, and
  * nothing before or after. 1 in is 25,400 micrometres, so `2.6 mm` is 2,600 and
  * `0.1 in` is 2,540. It is exact, for any number of digits; nothing is rounded.
  *

@@ -8,7 +8,6 @@ struct source {
     const char *name;
     struct dz_sheet sheet;
     struct job job;
-    bool is_resolved; /* out of a document, and not a sheet file */
 };
 
 static enum status open_document(struct source *source)
@@ -18,7 +17,6 @@ static enum status open_document(struct source *source)
     if (dz_number(result.answer) != DZ_OK)
         return refuse(&source->job, result.answer);
     source->sheet = result.sheet;
-    source->is_resolved = true;
     return DONE;
 }
 
@@ -51,12 +49,8 @@ static bool is_raw(const struct args *args, const uint8_t *value)
 static enum status try_value(const struct args *args, const struct source *source, const char *path)
 {
     uint64_t answer = look_up(source, path);
-    if (!dz_look_up_found(answer)) {
-        enum status status = refuse_path(source->name, &source->sheet, path, answer);
-        if (source->is_resolved && dz_number(answer) == DZ_NOT_FOUND)
-            note_space(&source->job.document);
-        return status;
-    }
+    if (!dz_look_up_found(answer))
+        return refuse_path(source->name, &source->sheet, path, answer);
     const uint8_t *value = source->sheet.table + dz_look_up_offset(answer);
     if (!args->micrometres)
         return is_raw(args, value) || json_holds(source->name, path, value, source->sheet.text) ? DONE : REFUSED;

@@ -152,6 +152,15 @@ static size_t substitution_end(const struct message *message)
     return message->place + 2;
 }
 
+/* Whether a name can be repeated as it is written: no quotes, and nothing that may be whitespace or cannot be seen. */
+static bool is_plain(struct span name)
+{
+    for (size_t i = 0; i < name.length; i++)
+        if (name.bytes[i] <= ' ' || name.bytes[i] > '~' || name.bytes[i] == '"')
+            return false;
+    return name.length > 0;
+}
+
 static void unset_words(struct message *message)
 {
     size_t end = substitution_end(message);
@@ -161,7 +170,7 @@ static void unset_words(struct message *message)
     say(&message->words, "nothing sets `");
     say_bytes(&message->words, whole, 60);
     say(&message->words, "`, and it is required");
-    if (name.length == 0 || memchr(name.bytes, '"', name.length) != NULL || memchr(name.bytes, ' ', name.length) != NULL) {
+    if (!is_plain(name)) {
         say(&message->help, "set it in the file, or give it with -e NAME=TEXT");
         return;
     }

@@ -9,8 +9,6 @@ bool start_job(const struct args *args, const char *name, struct job *job)
         return false;
     job->environment = &environment;
     job->budget = args->budget;
-    if (!job->document.is_sheet)
-        warn_of_mark(&job->document);
     return true;
 }
 

@@ -96,7 +96,7 @@ bool is_whole(const struct dz_sheet *sheet);
 
 /* diag.c: messages on stderr. */
 struct message {
-    const char *kind; /* error, warning or note */
+    const char *kind; /* error or note */
     const char *name; /* what it is about: a file, a path */
     struct span source; /* where the place is; no bytes if it is nowhere */
     size_t place, width;
@@ -114,8 +114,6 @@ enum status refuse_check(const struct job *job, const struct input *input, const
 enum status refuse_path(const char *name, const struct dz_sheet *sheet, const char *path, uint64_t answer);
 enum status refuse_length(const char *name, const char *path, const uint8_t *value, const struct dz_sheet *sheet, int number);
 void choose_words(struct message *message, const struct job *job, int number);
-void warn_of_mark(const struct input *document);
-void note_space(const struct input *document);
 void say_difference(struct shown *shown, const struct dz_sheet *file, const struct dz_sheet *sheet);
 enum status explain(const struct args *args);
 

@@ -1,8 +1,6 @@
 /* The sentences of refusals: which one is said, about which input. */
 #include "tool.h"
 
-#include <string.h>
-
 /* ---- Number 1: by counting the inputs. */
 
 static void say_over(struct message *message, const char *before, size_t count, const char *between, size_t most, const char *after)
@@ -74,8 +72,6 @@ static void refuse_document(const char *kind, const struct job *job, uint64_t an
     else
         choose_words(&message, job, message.number);
     report(&message);
-    if (message.number == DZ_NOT_SET)
-        note_space(&job->document);
 }
 
 enum status refuse(const struct job *job, uint64_t answer)
@@ -113,29 +109,4 @@ enum status refuse_check(const struct job *job, const struct input *input, const
     if (message.number == DZ_NOT_ACCEPTED && dz_number(own.answer) != DZ_OK)
         refuse_document("note", job, own.answer);
     return REFUSED;
-}
-
-/* ---- What is written in a file and cannot be seen. */
-
-void warn_of_mark(const struct input *document)
-{
-    struct span bytes = document->span;
-    if (bytes.length < 3 || memcmp(bytes.bytes, "\xef\xbb\xbf", 3) != 0)
-        return;
-    struct message message = {.kind = "warning", .name = document->name, .source = bytes, .width = 1};
-    say(&message.words, "a byte order mark belongs to the first name");
-    say(&message.help, "save the file as UTF-8 without a mark");
-    report(&message);
-}
-
-void note_space(const struct input *document)
-{
-    struct span bytes = document->span;
-    for (size_t i = 0; i + 1 < bytes.length; i++)
-        if (bytes.bytes[i] == 0xc2 && bytes.bytes[i + 1] == 0xa0) {
-            struct message message = {.kind = "note", .name = document->name, .source = bytes, .place = i, .width = 2};
-            say(&message.words, "here is a no-break space (U+00A0), which is part of a name or text");
-            report(&message);
-            return;
-        }
 }

@@ -411,8 +411,10 @@ path_refused(b"\x08a", 16, 0)
 path_refused(b"a\x0e", 16, 0)
 path_refused(b"a\x1b", 16, 0)
 path_refused(b"a\x7f", 16, 0)
-path_refused(b"\xef\xbb\xbfa", 16, 0)
-path_refused(b"\xc2\xa0a", 16, 0)
+path_refused(b"\xe2\x80\x8ba", 16, 0)
+path_refused(b"a\xc2\x85", 16, 0)
+path_refused(b'"\xc2\xa0a"', 16, 0)
+path_refused(b'""\xc2\xa0a', 16, 0)
 among(b"e\xcc\x81", b"\xc3\xa9", answer=refused(16, 0))
 among(b"a", b"ab", answer=refused(16, 0))
 among(b"ab", b"a", b"b", answer=refused(16, 0))
@@ -466,9 +468,46 @@ named(b'"\\uDBFF\\uDFFF"', b"\xf4\x8f\xbf\xbf")
 named(b"\xf0\x9f\x98\x80", b"\xf0\x9f\x98\x80")
 named(b"\xc2\x80\xdf\xbf\xe0\xa0\x80\xed\x9f\xbf\xee\x80\x80\xef\xbf\xbf\xf0\x90\x80\x80\xf4\x8f\xbf\xbf",
       b"\xc2\x80\xdf\xbf\xe0\xa0\x80\xed\x9f\xbf\xee\x80\x80\xef\xbf\xbf\xf0\x90\x80\x80\xf4\x8f\xbf\xbf")
-# Only ASCII whitespace is whitespace.
-named(b"\xc2\xa0", b"\xc2\xa0")
-named(b"\xef\xbb\xbfa\xe2\x80\xa8", b"\xef\xbb\xbfa\xe2\x80\xa8")
+# Whitespace of several bytes: Unicode 15's categories Zs, Zl and Zp, and U+FEFF. Around a path it is dropped, inside kept.
+WIDE_SPACES = [
+    b"\xc2\xa0", b"\xe1\x9a\x80",
+    b"\xe2\x80\x80", b"\xe2\x80\x81", b"\xe2\x80\x82", b"\xe2\x80\x83", b"\xe2\x80\x84", b"\xe2\x80\x85",
+    b"\xe2\x80\x86", b"\xe2\x80\x87", b"\xe2\x80\x88", b"\xe2\x80\x89", b"\xe2\x80\x8a",
+    b"\xe2\x80\xa8", b"\xe2\x80\xa9", b"\xe2\x80\xaf", b"\xe2\x81\x9f", b"\xe3\x80\x80", b"\xef\xbb\xbf",
+]
+for space in WIDE_SPACES:
+    size = len(space)
+    for path in [space + b"a", b"a" + space, space + b" " + space + b"a" + 2 * space, space + b'"a"' + space]:
+        named(path, b"a")
+    for name in [b"a" + space + b"b", b"a " + space + b"b", b"1" + space + b"2", b"true" + space + b"x", b"x" + space + b"/"]:
+        named(name, name)
+        named(space + name + space, name)
+        named(b'"' + name + b'"', name)
+    for path in [b'"a"' + space + b"b", b"a" + space + b'"b"', b'a"' + space + b'"b', b'"""a' + space + b'b"""']:
+        named(path, b"a" + space + b"b")
+    named(b'"' + space + b'"', space)
+    named(b'""' + space + b'""', space)
+    named(b"/" + space + b"/", b"/" + space + b"/")
+    path_refused(space, 7, 0)
+    path_refused(space + b".a", 7, 0)
+    path_refused(b"a." + space, 7, 0)
+    path_refused(space + b"#", 3, size)
+    path_refused(space + b"a" + space + b"\n", 3, 1 + 2 * size)
+    path_refused(space + b"a" + space + b"+", 3, 1 + 2 * size)
+    path_refused(space + b'"a', 4, 2 + size)
+    path_refused(space + b"-" + space, 5, size)
+    path_refused(space + space[:-1], 2, size)
+    path_refused(space + b".".join(17 * [b"a"]), 8, size + 32)
+    # The limit of 1,024 bytes counts it.
+    named((1024 - 1) // size * space + b"a" + (1024 - 1) % size * b" ", b"a")
+    path_refused(1024 // size * space + b"a" + 1024 % size * b" ", 1, 0)
+for ordinary in [
+    b"\xc2\x85", b"\xc2\x9f", b"\xc2\xa1", b"\xe1\x99\xbf", b"\xe1\x9a\x81", b"\xe1\xa0\x8e", b"\xe2\x80\x8b", b"\xe2\x80\x8c",
+    b"\xe2\x80\x8d", b"\xe2\x80\xa7", b"\xe2\x80\xaa", b"\xe2\x80\xae", b"\xe2\x80\xb0", b"\xe2\x81\x9e", b"\xe2\x81\xa0",
+    b"\xe2\xbf\xbf", b"\xe3\x80\x81", b"\xef\xbb\xbe", b"\xef\xbc\x80", b"\xf0\xa0\x80\x80",
+]:
+    named(ordinary, ordinary)
+    named(ordinary + b"a" + ordinary, ordinary + b"a" + ordinary)
 # Words and numbers are text here, whatever pieces they are.
 for path in [
     b"true", b"false", b"null", b"truefalse", b"truex", b"xtrue", b"tru", b"include",
@@ -506,6 +545,7 @@ for path, x, y in [
     (b"true.false", b"true", b"false"),
     (b"include.x", b"include", b"x"),
     (b"\xc3\xa9.\xf0\x9f\x98\x80", b"\xc3\xa9", b"\xf0\x9f\x98\x80"),
+    *[(space + b"a" + space + b"." + space + b"b" + space, b"a" + space, space + b"b") for space in WIDE_SPACES],
 ]:
     table = object_(1) + key(0, len(x)) + object_(1) + key(len(x), len(y)) + NULL
     look_up(table, x + y, path, found(16, 1))

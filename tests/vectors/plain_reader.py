@@ -13,10 +13,13 @@ MAX_NESTING, MAX_ITEMS, MAX_UNRESOLVED, MAX_PATH = 32, 2048, 256, 16
 NULL, FALSE, TRUE, NUMBER, STRING, ARRAY, OBJECT, UNRESOLVED, REQUIRED, OPTIONAL = range(1, 11)
 PIECE = 16
 
-# Whitespace is bytes 09 to 0D, 1C to 1F, 20; newline is 0A only. A comment runs from `#` or `//` up to the newline.
-GAP = re.compile(rb"(?:[\x09-\x0d\x1c-\x20]|(?:#|//)[^\n]*)*")
-SPACES = re.compile(rb"[\x09\x0b-\x0d\x1c-\x20]*")
-TEXT = re.compile(rb"(?:(?!//)[^\x09-\x0d\x1c-\x20$\"{}\[\]:=,+#`^?!@*&\\])+")
+# Whitespace is document 01's, bytes 09 to 0D, 1C to 1F, 20, and by change 2 every character of Unicode 15's categories Zs, Zl
+# and Zp, and U+FEFF; newline is 0A only. A comment runs from `#` or `//` up to the newline.
+WIDE_SPACES = [chr(c).encode() for c in (0xA0, 0x1680, *range(0x2000, 0x200B), 0x2028, 0x2029, 0x202F, 0x205F, 0x3000, 0xFEFF)]
+WIDE_SPACE = b"|".join(WIDE_SPACES)
+GAP = re.compile(rb"(?:[\x09-\x0d\x1c-\x20]|" + WIDE_SPACE + rb"|(?:#|//)[^\n]*)*")
+SPACES = re.compile(rb"(?:[\x09\x0b-\x0d\x1c-\x20]|" + WIDE_SPACE + rb")*")
+TEXT = re.compile(rb"(?:(?!//|" + WIDE_SPACE + rb")[^\x09-\x0d\x1c-\x20$\"{}\[\]:=,+#`^?!@*&\\])+")
 NUMERAL = re.compile(rb"-?(?:0|[1-9][0-9]*)(?:\.[0-9]+)?(?:[eE][-+]?[0-9]+)?")
 WORD = re.compile(rb"true|false|null")
 WORDS = {b"null": NULL, b"false": FALSE, b"true": TRUE}

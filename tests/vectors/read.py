@@ -474,21 +474,102 @@ refused(b"a={b={c=1}", 4, 10)
 refused(b"a={b=[1}]", 3, 7)
 refused(b"[{a=[1}]", 3, 6)
 
-# ---- Whitespace: 09 to 0D, 1C to 1F and 20; of these 0A alone is a newline. All else is ordinary.
-for space in [b"\x09", b"\x0b", b"\x0c", b"\x0d", b"\x1c", b"\x1d", b"\x1e", b"\x1f", b"\x20"]:
+# ---- Whitespace: 09 to 0D, 1C to 1F and 20, Unicode 15's categories Zs, Zl and Zp, and U+FEFF; of these 0A alone is a
+# newline. All else is ordinary.
+ASCII_SPACES = [b"\x09", b"\x0b", b"\x0c", b"\x0d", b"\x1c", b"\x1d", b"\x1e", b"\x1f", b"\x20"]
+WIDE_SPACES = [
+    b"\xc2\xa0", b"\xe1\x9a\x80",
+    b"\xe2\x80\x80", b"\xe2\x80\x81", b"\xe2\x80\x82", b"\xe2\x80\x83", b"\xe2\x80\x84", b"\xe2\x80\x85",
+    b"\xe2\x80\x86", b"\xe2\x80\x87", b"\xe2\x80\x88", b"\xe2\x80\x89", b"\xe2\x80\x8a",
+    b"\xe2\x80\xa8", b"\xe2\x80\xa9", b"\xe2\x80\xaf", b"\xe2\x81\x9f", b"\xe3\x80\x80", b"\xef\xbb\xbf",
+]
+for space in ASCII_SPACES + WIDE_SPACES:
+    size = len(space)
+    # Outer whitespace is dropped: around a document, its root, members, keys, values
+    accepted_each(
+        0, 0,
+        space, 2 * space, space + b"{" + space + b"}" + space, space + b"[" + space + b"]" + space, space + b"#" + space,
+        b"\n" + space + b"\n",
+    )
     accepted(space + b"a" + space + b"=" + space + b"1" + space + b"2" + space, 3)
-    refused(b"[1," + space + b",2]", 3, 4)
-    refused(b"a=1" + space + b"b=2", 3, 5)
+    accepted(b"{" + space + b"a" + space + b":" + space + b"1" + space + b"," + space + b"b=2" + space + b"," + space + b"}", 4)
+    accepted(b"[" + space + b"1" + space + b"," + space + b"2" + space + b"]", 4)
+    accepted_each(2, 0, b"a" + space + b"{" + space + b"}", b"a\n" + space + b"\n=\n" + space + b"1")
+    accepted(b"a=[]" + space + b"[]", 3)
+    tree(b"a=1" + space, 0, "7 3 - - 0 0", "4 2 61 31 0 0", "20 1 - - 2 0")
+    tree(b"a=true" + space, 0, "7 3 - - 0 0", "3 2 61 74727565 0 0", "19 1 - - 2 0")
+    tree(b"a=x" + space, 0, "7 3 - - 0 0", "5 2 61 78 0 0", "21 1 - - 2 0")
+    tree(b'a="x"' + space, 0, "7 3 - - 0 0", "5 2 61 78 0 0", "21 1 - - 2 0")
+    # ... that between simple pieces and inside keys is kept, and it ends unquoted text, numbers and words
+    for first, last in [(b"x", b"y"), (b"1", b"2"), (b"true", b"null"), (b"1", b"x"), (b"1.", b"5"), (b"/", b"/")]:
+        kept = first + space + last
+        accepted(b"a=" + kept, 4 if b"." in first else 3)
+        accepted(b"[" + kept + b"]", 4 if b"." in first else 3)
+    tree(
+        b"a=x" + space + b"y" + space, 0,
+        "7 4 - - 0 0", f"5 3 61 78{space.hex()}79 0 0", "21 1 - - 2 0", f"21 1 - - {3 + size} 0",
+    )
+    tree(b"a" + space + b"b=1", 0, "7 3 - - 0 0", f"4 2 61{space.hex()}62 31 0 0", f"20 1 - - {3 + size} 0")
+    tree(
+        b"a" + space + b"." + space + b"b=1", 0,
+        "7 4 - - 0 0", f"7 3 61{space.hex()} - 0 0", f"4 2 {space.hex()}62 31 {2 + size} 0", f"20 1 - - {4 + 2 * size} 0",
+    )
+    if space >= b" ":  # control bytes are escaped there
+        tree(b'a="' + space + b'"', 0, "7 3 - - 0 0", f"5 2 61 {space.hex()} 0 0", "21 1 - - 2 0")
+    tree(b'a="""' + space + b'"""', 0, "7 3 - - 0 0", f"5 2 61 {space.hex()} 0 0", "21 1 - - 2 0")
+    # ... in substitutions
+    for opening in [b"${", b"${?"]:
+        kind = 25 if opening == b"${" else 26
+        tree(b"a=" + opening + space + b"x" + space + b"}", 1, "7 3 - - 0 0", "8 2 61 - 0 0", f"{kind} 1 - 780001 2 1")
+        tree(
+            b"a=" + opening + b"x" + space + b"y}", 1,
+            "7 3 - - 0 0", "8 2 61 - 0 0", f"{kind} 1 - 78{space.hex()}79000{2 + size} 2 1",
+        )
+        refused(b"a=" + opening + space + b"}", 7, 2)
+        refused(b"a=" + opening + space + b".x}", 7, 2)
+        refused(b"a=" + opening + b"x" + space + b"\n}", 3, 3 + len(opening) + size)
+    refused(b"a=${" + space + b"?x}", 3, 4 + size)
+    refused(b"a=$" + space + b"{x}", 3, 2)
+    tree(
+        b"a=${x}" + space + b"y", 1,
+        "7 4 - - 0 0", "8 3 61 - 0 0", "25 1 - 780001 2 1", f"21 1 {space.hex()} 79 {6 + size} 0",
+    )
+    # ... it is no newline: it parts no fields, and a comment goes on behind it
+    refused(b"a=1" + space + b"b=2", 3, 4 + size)
+    refused(b"a={}" + space + b"b=2", 11, 4 + size)
+    refused(b"{}" + space + b"a=1", 3, 2 + size)
+    accepted_each(2, 0, b"a=1#" + space + b"b=2", b"a=1//" + space + b"b=2", b"#" + space + b"b=2\na=1")
+    # ... and it stands for nothing
+    refused(space, 1, 0, b"=\0")
+    refused(space + b"=1", 3, size)
+    refused(b"[1," + space + b",2]", 3, 3 + size)
+    refused(b"a=" + space, 4, 2 + size)
+    refused(b"a" + space, 4, 1 + size)
+    refused(b"a=" + space + b"-" + space + b"1", 5, 2 + size)
+    refused(b"include" + space + b'"s"', 6, 0)
+    refused(space + b"include" + space + b"x=1", 6, size)
+    refused(b"a" + space + b"$x=1", 7, 1 + size)
+    refused(b"a=[]" + space + b"1", 11, 4 + size)
 accepted(b"\na\n=\n1\n", 2)
+# Neither are the neighbours of the characters that are, nor U+0085, 180E, 200B to 200D and 2060, whatever they look like.
 for ordinary in [
-    b"\x00", b"\x08", b"\x0e", b"\x1b", b"\x7f", b"\xc2\x85", b"\xc2\xa0", b"\xe2\x80\xa8", b"\xe3\x80\x80",
-    b"\xef\xbb\xbf",
+    b"\x00", b"\x08", b"\x0e", b"\x1b", b"\x7f", b"\xc2\x85", b"\xc2\x9f", b"\xc2\xa1", b"\xc3\xa0", b"\xe1\x99\xbf",
+    b"\xe1\x9a\x81", b"\xe1\xa0\x8e", b"\xe1\xbf\xbf", b"\xe2\x80\x8b", b"\xe2\x80\x8c", b"\xe2\x80\x8d", b"\xe2\x80\xa7",
+    b"\xe2\x80\xaa", b"\xe2\x80\xae", b"\xe2\x80\xb0", b"\xe2\x81\x80", b"\xe2\x81\x9e", b"\xe2\x81\xa0", b"\xe2\x82\x80",
+    b"\xe2\xbf\xbf", b"\xe3\x80\x81", b"\xe3\x85\xa4", b"\xef\xbb\xbe", b"\xef\xbc\x80", b"\xef\xbf\xbe", b"\xf0\x90\x80\x80",
+    b"\xf0\xa0\x80\x80",
 ]:
     accepted(b"a=1" + ordinary + b"2", 3)
     accepted(ordinary + b"a=" + ordinary, 2)
-accepted(b"\xef\xbb\xbf=1", 2)
-accepted(b"\xef\xbb\xbf{}", 2)
-refused(b"\xc2\xa0", 4, 2)
+    tree(ordinary + b"=1", 0, "7 3 - - 0 0", f"4 2 {ordinary.hex()} 31 0 0", f"20 1 - - {1 + len(ordinary)} 0")
+    refused(ordinary, 4, len(ordinary))
+# A byte order mark is whitespace wherever it stands.
+tree(b"\xef\xbb\xbfa=1", 0, "7 3 - - 0 0", "4 2 61 31 3 0", "20 1 - - 5 0")
+tree(b"\xef\xbb\xbf[]", 0, "6 1 - - 0 0")
+accepted(b"a=1\n\xef\xbb\xbfb=2", 4)
+# The bytes of such a character cut short, or without its first, are no character.
+refused_each(2, 3, b"a=1\xc2", b"a=1\xe2\x80", b"a=1\xe2", b"a=1\xef\xbb", b"a=1\xa0", b"a=1\x80\x80")
+refused(b"a=1 \xe3\x80 ", 2, 4)
 # Outer whitespace is dropped, that between simple pieces kept, that between containers has no meaning.
 tree(b"a= \t x \x1c\x1fy \r", 0, "7 4 - - 0 0", "5 3 61 78201c1f79 0 0", "21 1 - - 5 0", "21 1 - - 9 0")
 accepted(b"a = [ 1 ] \t [ 2 ]", 7)
@@ -898,13 +979,14 @@ accepted(b"[ { a : { x : 1 } }, { a : 42 }, { a : { y : 2 } } ]", 6 + 4 + 6)
 accepted(b"[ { a : { x : 1 } }, { a : { y : 2 } }, { a : 42 } ]", 6 + 6 + 4)
 # Keys
 accepted_each(2, 0, b"hyphen-separated : 42", b"camelCase : 42")
-# Where document 01 is narrower: no `include`, no `+=`, only ASCII whitespace.
+# Where document 01 is narrower: no `include`, no `+=`.
 refused(b'include "foo.conf"\n', 6, 0)
 refused(b'a : { include "foo.conf" }', 6, 6)
 refused(b"path += /usr/bin", 3, 5)
 refused(b"a = []\na += b\n", 3, 9)
+# The source's whitespace
 for space in [b"\xc2\xa0", b"\xe2\x80\x87", b"\xe2\x80\xaf", b"\xe2\x80\xa8", b"\xe2\x80\xa9", b"\xef\xbb\xbf"]:
-    accepted(space + b"{ a : 1 }", 4)
+    accepted(space + b"{ a : 1 }", 2)
 # ... no type conversion: of the six words for a boolean two are one, and in quotes none
 tree(
     b"[true, yes, on, false, no, off]", 0,

@@ -262,8 +262,30 @@ gives(b'[ "true", "yes", "on", "false", "no", "off" ]', '["true","yes","on","fal
 gives(b"[ ns, us, ms, s, m, h, d ]", '["ns","us","ms","s","m","h","d"]')
 gives(b"[ 10 seconds, 1EB, 1e, 128K ]", '["10 seconds","1EB","1e","128K"]')
 gives(b'a = "128K"', '{"a":"128K"}')
-# Where document 01 is narrower: only ASCII whitespace, so a key begins with such a character.
-gives(b"\xc2\xa0{ a : 1 }", '{"\\u00a0":{"a":1}}')
+# Whitespace, by Unicode's categories Zs, Zl and Zp, and a byte order mark: outer is dropped, that inside a key or between
+# simple pieces kept, and none of it is a newline.
+for space in "\u00a0\u1680\u2000\u2001\u2002\u2003\u2004\u2005\u2006\u2007\u2008\u2009\u200a\u2028\u2029\u202f\u205f\u3000\ufeff":
+    written, size = space.encode(), len(space.encode())
+    gives(written + b"{ a : 1 }", '{"a":1}')
+    gives(b"a" + written + b"=" + written + b"1" + written, '{"a":1}')
+    gives(b"a=1" + written + b"2", '{"a":"1%s2"}' % space)
+    gives(b"a" + written + b"b=1", '{"a%sb":1}' % space)
+    gives(b"x=1,a=${?" + written + b"x" + written + b"}", '{"x":1,"a":1}')
+    gives(b"x=1,a=${x}" + written + b"${x}" + written, '{"x":1,"a":"1%s1"}' % space)
+    gives(b"a=${?x}" + written + b"b" + written + b"${?x}", '{"a":"%sb%s"}' % (space, space))
+    gives(b"x=[1],a=${x}" + written + b"[2]", '{"x":[1],"a":[1,2]}')
+    gives(b"a" + written + b"b=1,c=${a" + written + b"b}", '{"a%sb":1,"c":1}' % space)
+    gives(b'a="' + written + b'"', '{"a":"%s"}' % space)
+    gives(b"#" + written + b"a=1", "{}")
+    gives(b"a=${" + written + b"E" + written + b"}", '{"a":"v"}', b"E=v\0")
+    refused(b"a=1" + written + b"b=2", 3, 4 + size)
+    refused(b"x=1,a=${" + written + b"?x}", 3, 8 + size)
+    refused(b"a=" + written + b"${x}", 9, 2 + size)
+    refused(b"a=[1]" + written + b"5", 11, 5 + size)
+for ordinary in "\u0085\u180e\u200b\u200c\u2060":
+    gives(b"a" + ordinary.encode() + b"=1", '{"a%s":1}' % ordinary)
+    gives(ordinary.encode() + b"{ a : 1 }", '{"%s":{"a":1}}' % ordinary)
+    gives(b"a=1" + ordinary.encode(), '{"a":"1%s"}' % ordinary)
 refused(b'include "foo.conf"\n', 6, 0)
 refused(b"path += /usr/bin", 3, 5)
 

@@ -73,7 +73,5 @@ pub const NOT_ASCII: u32 = 128;
 /// The byte that ends an entry of an environment.
 pub const NUL: u32 = 0;
 
-/// Whitespace is 9 to 13, 28 to 31 and the space: the ends of the second range.
+/// Whitespace of ASCII is 9 to 13, 28 to 31 and the space: where the second range begins, which ends next to the space.
 pub const FILE_SEPARATOR: u32 = 28;
-
-pub const UNIT_SEPARATOR: u32 = 31;

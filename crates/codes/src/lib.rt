@@ -1,8 +1,9 @@
-// Document 01's numbers by name: bytes of the grammar, limits, refusal numbers, kinds of records; and document 02's units. Constants only;
-// the definitions of `rules` have the same names for theirs (Ascii, Sizes, Refusals, Kinds, Micrometres).
+// Document 01's numbers by name: bytes of the grammar, limits, refusal numbers, kinds of records; and document 02's whitespace and units.
+// Constants only; the definitions of `rules` have the same names for theirs (Ascii, Spaces, Sizes, Refusals, Kinds, Micrometres).
 pub mod bytes;
 pub mod kinds;
 pub mod letters;
 pub mod limits;
 pub mod refusals;
+pub mod spaces;
 pub mod units;

@@ -1,5 +1,7 @@
 -- Document 01, "Reading": "A reading place goes forward one character at a time. Whitespace is bytes 09 to 0D, 1C to 1F, 20; newline
 -- is 0A only. Any other character is ordinary. A comment runs from `#` or `//` up to the newline."
+-- Document 02, No. 2: "Document 01's whitespace is too narrow: the source counts every Unicode 15 character of categories Zs, Zl and Zp, and
+-- U+FEFF anywhere. Newline stays 0A alone."
 -- The text that is read is well-formed UTF-8 (number 2 comes first).
 use Prim.Native.Nat.{ℕ, zero, suc, _+_, _*_, _%_, min, max}
 use mathlib.Core.List.{List}
@@ -8,6 +10,7 @@ use lib.Dec.{ltb, eqb}
 use lib.ListN.{length}
 use Rattle.rules.specs.Bytes.{noByte, byteAt, within, skip}
 use Rattle.rules.specs.Ascii as ascii
+use Rattle.rules.specs.Spaces as spaces
 
 -- past the end there is no character; this is no code point
 abbrev pub noCharacter : ℕ
@@ -54,8 +57,24 @@ characterAt s at =
 abbrev pub isNewline : ℕ → Bool
 isNewline c = eqb c ascii.newline
 
+-- document 01's whitespace
+abbrev pub isAsciiSpace : ℕ → Bool
+isAsciiSpace c = within ascii.tab ascii.carriageReturn c || within ascii.fileSeparator ascii.unitSeparator c || eqb c ascii.space
+
+-- document 02's, No. 2, beside it
+abbrev pub isWideSpace : ℕ → Bool
+isWideSpace c =
+    eqb c spaces.noBreakSpace
+    || eqb c spaces.oghamSpaceMark
+    || within spaces.enQuad spaces.hairSpace c
+    || within spaces.lineSeparator spaces.paragraphSeparator c
+    || eqb c spaces.narrowNoBreakSpace
+    || eqb c spaces.mediumMathematicalSpace
+    || eqb c spaces.ideographicSpace
+    || eqb c spaces.byteOrderMark
+
 abbrev pub isSpace : ℕ → Bool
-isSpace c = within ascii.tab ascii.carriageReturn c || within ascii.fileSeparator ascii.unitSeparator c || eqb c ascii.space
+isSpace c = isAsciiSpace c || isWideSpace c
 
 -- whitespace but newline: what may stand between the pieces of one value or path
 abbrev pub isInline : ℕ → Bool

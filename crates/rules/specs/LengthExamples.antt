@@ -61,7 +61,9 @@ lengths =
     -- between them any run of it, newlines too
     ∷ long "5\n\tmm" 5000
     ∷ long "5mm" 5000
-    ∷ refused "5\u{a0}mm" 20
+    ∷ long "5\u{a0}mm" 5000
+    ∷ long "5\u{2028}\u{feff}mm" 5000
+    ∷ refused "5\u{200b}mm" 20
     -- JSON's numbers, the units as written, and those in a string only
     ∷ refused "05 mm" 20
     ∷ refused ".5 mm" 20

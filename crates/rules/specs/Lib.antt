@@ -1,6 +1,7 @@
 pub mod Sizes
 pub mod Bytes
 pub mod Ascii
+pub mod Spaces
 pub mod Kinds
 pub mod Refusals
 pub mod Utf8
@@ -31,3 +32,4 @@ pub mod Cases
 pub mod Examples
 pub mod EnvironmentExamples
 pub mod LengthExamples
+pub mod SpaceExamples

@@ -1,11 +1,12 @@
 // Scanning that needs no output: whitespace, comments and gaps. A place of a text goes forward by whole characters.
 // Computes: Characters
 use codes::bytes;
+use codes::spaces;
 ghost use mathlib.Core.Path.{_≡_};
 ghost use Prim.Native.Nat.{_≤_, _<_};
 ghost use lib.ListN.{length};
 ghost use Rattle.rules.specs.Sizes.{maxDocument};
-ghost use Rattle.rules.specs.Characters.{isSpace, isInline, startsComment, afterInline, lineEnd};
+ghost use Rattle.rules.specs.Characters.{isWideSpace, isSpace, isInline, startsComment, afterInline, lineEnd};
 ghost use Rattle.text_scan.specs.Scan.{SeenIs, EndIs, PassedIs, GapIs};
 use text_chars::Cursor;
 use text_chars::Step;
@@ -32,23 +33,61 @@ pub fn look(s: &[u8], c: Cursor) -> Seen
 
 // ---- whitespace, comments, gaps
 
-/// Whitespace, newlines too.
+// Whitespace past ASCII, in the order of the characters.
+fn is_wide_space(ch: u32) -> bool
+    ensures { λ r. ⌜ r ≡ isWideSpace ch ⌝ }
+{
+    if ch == spaces::NO_BREAK_SPACE {
+        return true;
+    }
+    if ch == spaces::OGHAM_SPACE_MARK {
+        return true;
+    }
+    if ch < spaces::EN_QUAD {
+        return false;
+    }
+    if ch <= spaces::HAIR_SPACE {
+        return true;
+    }
+    if ch < spaces::LINE_SEPARATOR {
+        return false;
+    }
+    if ch <= spaces::PARAGRAPH_SEPARATOR {
+        return true;
+    }
+    if ch == spaces::NARROW_NO_BREAK_SPACE {
+        return true;
+    }
+    if ch == spaces::MEDIUM_MATHEMATICAL_SPACE {
+        return true;
+    }
+    if ch == spaces::IDEOGRAPHIC_SPACE {
+        return true;
+    }
+    ch == spaces::BYTE_ORDER_MARK
+}
+
+/// Whitespace, newlines too. What most texts are made of is decided first.
 pub fn is_space(ch: u32) -> bool
     ensures { λ r. ⌜ r ≡ isSpace ch ⌝ }
 {
+    if ch > bytes::SPACE {
+        if ch < bytes::NOT_ASCII {
+            return false;
+        }
+        return is_wide_space(ch);
+    }
+    if ch == bytes::SPACE {
+        return true;
+    }
     if ch < bytes::TAB {
         return false;
     }
     if ch <= bytes::CARRIAGE_RETURN {
         return true;
     }
-    if ch < bytes::FILE_SEPARATOR {
-        return false;
-    }
-    if ch <= bytes::UNIT_SEPARATOR {
-        return true;
-    }
-    ch == bytes::SPACE
+    // the second range ends next to the space
+    ch >= bytes::FILE_SEPARATOR
 }
 
 /// Whitespace but newline.

@@ -1,7 +1,7 @@
 //! Seeded random resolutions: documents, environments, budgets and rooms.
 
 use crate::plain_resolve::{Rooms, Sheet};
-use crate::random::Random;
+use crate::random::{Random, NO_SPACES, WIDE_SPACES};
 
 /// What one resolution is given.
 pub struct Case {
@@ -80,8 +80,10 @@ enum Kind {
 const SIMPLE: &[&str] = &["a", "b", "\"a\"", "f"];
 const ARRAYS: &[&str] = &["e", "\"e\"", "g"];
 const OBJECTS: &[&str] = &["c", "d", "h"];
-const ODD_KEYS: &[&str] =
-    &["a b", "\"\"", "1.2", "true", "\"a.b\"", "é", "a . b", "include", "-1", "a..b", "$a", "-x", "+"];
+#[rustfmt::skip]
+const ODD_KEYS: &[&str] = &[
+    "a b", "\"\"", "1.2", "true", "\"a.b\"", "é", "a . b", "a\u{a0}b", "a\u{200b}", "include", "-1", "a..b", "$a", "-x", "+",
+];
 const WORDS: &[&str] = &[
     "1",
     "-2.5e3",
@@ -102,6 +104,7 @@ const WORDS: &[&str] = &[
 const ODD_WORDS: &[&str] =
     &["\"\\x\"", "\"\\ud800\"", "-", "$", "${", "${a#}", "${a..b}", "\"open", "+", "\\", "${?}", "-x"];
 const GAPS: &[&str] = &["", "", "", " ", "  ", "\t"];
+const SIGNS: &[&str] = &["=", ":", " = ", "=\n", "\u{a0}=", "=\u{3000}", "\u{2029}:\u{feff}"];
 const LINES: &[&str] = &["\n", "\n\n", " \n ", " # c\n", " // c\n"];
 
 struct Writer<'r> {
@@ -115,6 +118,15 @@ impl Writer<'_> {
     fn pick(&mut self, from: &[&str]) {
         let picked = self.random.pick(from);
         self.out.push_str(picked);
+    }
+
+    /// Whitespace without a newline, or none; now and then a character that only looks like it.
+    fn gap(&mut self) {
+        match self.random.below(200) {
+            0 => self.pick(NO_SPACES),
+            1..=30 => self.pick(WIDE_SPACES),
+            _ => self.pick(GAPS),
+        }
     }
 
     fn document(&mut self) {
@@ -132,7 +144,7 @@ impl Writer<'_> {
     fn separator(&mut self) {
         match self.random.below(100) {
             0 => self.out.push_str(",,"),
-            1 => self.out.push(' '),
+            1 => self.gap(),
             2..=5 => self.out.push_str("\n,\n"),
             6..=50 => self.pick(LINES),
             _ => self.out.push(','),
@@ -144,11 +156,11 @@ impl Writer<'_> {
             if i > 0 {
                 self.separator();
             }
-            self.pick(GAPS);
+            self.gap();
             member(self);
         }
         if self.random.once_in(12) {
-            self.pick(&[",", "\n", ",\n"]);
+            self.pick(&[",", "\n", ",\n", "\u{2028}", ",\u{a0}"]);
         }
     }
 
@@ -212,14 +224,14 @@ impl Writer<'_> {
         self.value(kind, depth);
         self.around.pop();
         if !self.out[at..].starts_with('{') || self.random.once_in(2) {
-            self.out.insert_str(at, self.random.pick(&["=", ":", " = ", "=\n"]));
+            self.out.insert_str(at, self.random.pick(SIGNS));
         }
     }
 
     fn value(&mut self, kind: Kind, depth: usize) {
         self.piece(kind, depth);
         while self.random.once_in(3) {
-            self.pick(GAPS);
+            self.gap();
             self.piece(kind, depth);
         }
     }
@@ -229,6 +241,9 @@ impl Writer<'_> {
         if self.random.below(20) < 9 {
             let required = self.random.once_in(7);
             self.pick(if required { &["${"] } else { &["${?", "${? "] });
+            if self.random.once_in(12) {
+                self.pick(WIDE_SPACES);
+            }
             if self.random.once_in(20) {
                 self.pick(&["x", "x.y", "a.b", "\"a.b\"", "a b"]);
             } else if self.random.once_in(4) && !self.around.is_empty() {
@@ -236,6 +251,9 @@ impl Writer<'_> {
                 self.out.push_str(&self.around.join("."));
             } else {
                 self.path(kind);
+            }
+            if self.random.once_in(12) {
+                self.pick(WIDE_SPACES);
             }
             self.out.push('}');
             return;
@@ -293,11 +311,12 @@ fn at_a_limit(random: &mut Random) -> Vec<u8> {
 }
 
 fn damage(random: &mut Random, bytes: &mut Vec<u8>) {
-    let alphabet = b" \n,={}[]:$\"\\+#/.-?abc01tn\0\x1f\xc3\xa9\xff\xed";
+    let alphabet = b" \n,={}[]:$\"\\+#/.-?abc01tn\0\x1f\xc3\xa9\xff\xed\xa0";
     for _ in 0..=random.below(2) {
         let at = random.below(bytes.len() + 1);
-        match random.below(4) {
+        match random.below(5) {
             0 => bytes.insert(at, random.pick(alphabet)),
+            4 => drop(bytes.splice(at..at, random.pick(WIDE_SPACES).bytes())),
             1 if random.once_in(3) => bytes.truncate(at),
             2 if at < bytes.len() => drop(bytes.remove(at)),
             _ if at < bytes.len() => bytes[at] = random.pick(alphabet),

@@ -1,6 +1,6 @@
 //! Seeded random lengths, sound and damaged.
 
-use crate::random::Random;
+use crate::random::{Random, NO_SPACES, WIDE_SPACES};
 
 /// A value's records and their text part.
 pub struct Case {
@@ -19,20 +19,27 @@ const GAPS: &[&str] = &["", " ", " ", "  ", "\t", "\n", "\r", "\u{b}", "\u{1c}",
 const UNITS: &[&str] = &["mm", "um", "in"];
 
 /// What is no gap, and what is no unit.
-const OTHER_GAPS: &[&str] = &["\u{a0}", "\u{85}", "\u{1b}", "\u{2003}", ".", "_"];
-const OTHER_UNITS: &[&str] = &["", " ", "MM", "m", "inch", "mm ", "cm", "\u{b5}m", "e5mm", "mn", "im", "un"];
+const OTHER_GAPS: &[&str] = &["\u{1b}", ".", "_"];
+const OTHER_UNITS: &[&str] =
+    &["", " ", "MM", "m", "inch", "mm ", "mm\u{a0}", "cm", "\u{b5}m", "e5mm", "mn", "im", "un"];
 
 pub fn case(random: &mut Random) -> Case {
-    let gap = random.once_in(30);
+    let gaps = match random.below(60) {
+        0 => OTHER_GAPS,
+        1 => NO_SPACES,
+        2..=16 => WIDE_SPACES,
+        _ => GAPS,
+    };
+    let wide = if random.once_in(20) { random.pick(WIDE_SPACES) } else { "" };
+    let gap = random.pick(gaps);
     let unit = random.once_in(20);
-    let gap = random.pick(if gap { OTHER_GAPS } else { GAPS });
     let unit = random.pick(if unit { OTHER_UNITS } else { UNITS });
-    let mut written = [&number(random), gap, unit].concat().into_bytes();
+    let mut written = [&number(random), gap, wide, unit].concat().into_bytes();
     if random.once_in(15) {
         written = number(random).into_bytes();
     }
     if random.once_in(40) {
-        written.splice(0..0, random.pick(&[" ", "\n", "x", "-", "0"]).bytes());
+        written.splice(0..0, random.pick(&[" ", "\n", "x", "-", "0", "\u{a0}", "\u{feff}"]).bytes());
     }
     if random.once_in(30) {
         damage(random, &mut written);

@@ -55,11 +55,13 @@ pub fn length(table: &[u8], text: &[u8]) -> Length {
     if rest.is_empty() {
         return Err(21);
     }
-    let gap = rest.iter().take_while(|byte| is_whitespace(char::from(**byte))).count();
-    let unit = match &rest[gap..] {
-        b"um" => 1,
-        b"mm" => 1_000,
-        b"in" => 25_400,
+    let Ok(rest) = std::str::from_utf8(rest) else {
+        return Err(20);
+    };
+    let unit = match rest.trim_start_matches(is_whitespace) {
+        "um" => 1,
+        "mm" => 1_000,
+        "in" => 25_400,
         _ => return Err(20),
     };
     if table[0] == 4 {
@@ -353,9 +355,11 @@ impl<'a> PathReader<'a> {
     }
 }
 
-/// "Whitespace is bytes 09 to 0D, 1C to 1F, 20"
+/// "Whitespace is bytes 09 to 0D, 1C to 1F, 20", and by document 02, No. 2, "every Unicode 15 character of categories Zs, Zl
+/// and Zp, and U+FEFF".
 fn is_whitespace(c: char) -> bool {
-    matches!(c, '\x09'..='\x0d' | '\x1c'..='\x20')
+    let zs = matches!(c, '\u{a0}' | '\u{1680}' | '\u{2000}'..='\u{200a}' | '\u{202f}' | '\u{205f}' | '\u{3000}');
+    matches!(c, '\x09'..='\x0d' | '\x1c'..='\x20') || zs || matches!(c, '\u{2028}' | '\u{2029}' | '\u{feff}')
 }
 
 /// The length of unquoted text: "up to whitespace, `//`, or one of [..]".

@@ -28,8 +28,11 @@ impl<'a> Cursor<'a> {
     }
 
     pub fn skip_spaces(&mut self) {
-        while self.byte().is_some_and(|byte| is_whitespace(byte) && byte != b'\n') {
-            self.at += 1;
+        while self.byte() != Some(b'\n') {
+            match space(&self.bytes[self.at..]) {
+                0 => return,
+                length => self.at += length,
+            }
         }
     }
 
@@ -58,7 +61,7 @@ impl<'a> Cursor<'a> {
         match self.byte() {
             None => false,
             Some(b'/') => self.bytes.get(self.at + 1) != Some(&b'/'),
-            Some(byte) => byte == b'"' || !stops_unquoted(byte),
+            Some(byte) => byte == b'"' || !stops_unquoted(&self.bytes[self.at..]),
         }
     }
 
@@ -83,7 +86,7 @@ impl<'a> Cursor<'a> {
             }
         }
         let mut end = 0;
-        while end < rest.len() && !stops_unquoted(rest[end]) && !rest[end..].starts_with(b"//") {
+        while end < rest.len() && !stops_unquoted(&rest[end..]) && !rest[end..].starts_with(b"//") {
             end += 1;
         }
         self.at += end;
@@ -175,16 +178,27 @@ pub fn refuse<T>(number: u8, place: usize) -> Result<T, Refusal> {
     Err(Refusal { number, place })
 }
 
-/// "Whitespace is bytes 09 to 0D, 1C to 1F, 20"
-fn is_whitespace(byte: u8) -> bool {
-    matches!(byte, 0x09..=0x0d | 0x1c..=0x20)
+/// The length of the whitespace character that `rest` starts with, 0 if it starts with none. "Whitespace is bytes 09 to 0D,
+/// 1C to 1F, 20", and by document 02, No. 2, "every Unicode 15 character of categories Zs, Zl and Zp, and U+FEFF".
+fn space(rest: &[u8]) -> usize {
+    match rest {
+        [0x09..=0x0d | 0x1c..=0x20, ..] => 1,
+        [0xc2, 0xa0, ..] => 2,
+        [0xe1, 0x9a, 0x80, ..]
+        | [0xe2, 0x80, 0x80..=0x8a | 0xa8 | 0xa9 | 0xaf, ..]
+        | [0xe2, 0x81, 0x9f, ..]
+        | [0xe3, 0x80, 0x80, ..]
+        | [0xef, 0xbb, 0xbf, ..] => 3,
+        _ => 0,
+    }
 }
 
-fn stops_unquoted(byte: u8) -> bool {
-    STOPS[usize::from(byte)]
+/// Whether unquoted text ends before `rest`, which is not empty.
+fn stops_unquoted(rest: &[u8]) -> bool {
+    STOPS[usize::from(rest[0])] || rest[0] >= 0x80 && space(rest) > 0
 }
 
-/// Which bytes end unquoted text.
+/// Which bytes below 80 end unquoted text.
 const STOPS: [bool; 256] = {
     let listed = b"\x09\x0a\x0b\x0c\x0d\x1c\x1d\x1e\x1f $\"{}[]:=,+#`^?!@*&\\";
     let mut stops = [false; 256];

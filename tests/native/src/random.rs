@@ -34,6 +34,16 @@ impl Random {
     }
 }
 
+/// Whitespace of several bytes, and what only looks like it.
+#[rustfmt::skip]
+pub(crate) const WIDE_SPACES: &[&str] = &[
+    "\u{a0}", "\u{1680}", "\u{2000}", "\u{2001}", "\u{2002}", "\u{2003}", "\u{2004}", "\u{2005}", "\u{2006}", "\u{2007}",
+    "\u{2008}", "\u{2009}", "\u{200a}", "\u{2028}", "\u{2029}", "\u{202f}", "\u{205f}", "\u{3000}", "\u{feff}",
+];
+pub(crate) const NO_SPACES: &[&str] = &[
+    "\u{85}", "\u{a1}", "\u{1681}", "\u{180e}", "\u{200b}", "\u{2027}", "\u{202a}", "\u{2060}", "\u{3001}", "\u{fefe}",
+];
+
 /// What one look-up is given.
 pub struct Case {
     pub table: Vec<u8>,
@@ -79,7 +89,7 @@ const NAMES: &[&[u8]] = &[
     b"falsehood", b"0", b"10", b"-1", b"1.5", b"1e+2", b"-", b"a-b", b"a/b", b"a//b", b"#", b"$", b"${a}", b"\"",
     b"\"\"\"", b"\\", b"/", b"\n", b"\t", b"\x00", b"\x08\x0c\r", b"\x1f", b"\x7f", b"\xc3\xa9", b"\xc2\xa0",
     b"\xe2\x82\xac", b"\xef\xbb\xbf", b"\xef\xbf\xbf", b"\xf0\x9f\x98\x80", b"\xf4\x8f\xbf\xbf", b"\xff", b"\xc3",
-    b"\xed\xa0\x80", b"plate", b"minimum",
+    b"\xed\xa0\x80", b"plate", b"minimum", b"a\xc2\xa0b", b"\xe3\x80\x80a", b"a\xe2\x80\x8b",
 ];
 
 fn name(random: &mut Random) -> Vec<u8> {
@@ -256,7 +266,7 @@ const FRAGMENTS: &[&[u8]] = &[
     b"-", b"-1", b"--", b"-0", b"01", b"1.5", b"1.", b".5", b"1e5", b"1e+5", b"1e+", b"1E-", b"e", b"true", b"false",
     b"null", b"nul", b"include", b"/", b"//", b"#", b"$", b"${", b"{", b"}", b"[", b"]", b":", b"=", b",", b"+", b"`",
     b"^", b"?", b"!", b"@", b"*", b"&", b"'", b"|", b"\xc3\xa9", b"\xe2\x82\xac", b"\xf0\x9f\x98\x80", b"\xc2\x85",
-    b"\xe2\x80\xa8", b"\x80", b"\xff", b"\xc3", b"\xe2\x82", b"\xf0\x9f\x98", b"\xc0\x80", b"\xe0\x80\x80",
+    b"\xe2\x80\xa8", b"\xc2\xa0", b"\xe3\x80\x80", b"\xef\xbb\xbf", b"\xe2\x80\x8b", b"\x80", b"\xff", b"\xc3", b"\xe2\x82", b"\xf0\x9f\x98", b"\xc0\x80", b"\xe0\x80\x80",
     b"\xed\xa0\x80", b"\xed\x9f\xbf", b"\xf0\x80\x80\x80", b"\xf4\x90\x80\x80", b"\xf5",
 ];
 
@@ -289,6 +299,12 @@ fn path(random: &mut Random, root: &Value) -> Vec<u8> {
     }
     if random.once_in(6) {
         path.extend_from_slice(random.pick(&[&b" "[..], b"\x0b", b" \x1f", b"\t", b"\n", b" ."]));
+    }
+    if random.once_in(6) {
+        path.splice(0..0, random.pick(WIDE_SPACES).bytes());
+    }
+    if random.once_in(6) {
+        path.extend(random.pick(WIDE_SPACES).bytes());
     }
     if random.once_in(5) {
         damage_path(random, &mut path);
@@ -385,11 +401,13 @@ fn quote(random: &mut Random, part: &[u8], written: &mut Vec<u8>) {
 
 fn damage_path(random: &mut Random, path: &mut Vec<u8>) {
     let at = random.below(path.len() + 1);
-    match random.below(6) {
+    match random.below(8) {
         0 if at < path.len() => path[at] ^= 1 << random.below(8),
         1 if at < path.len() => path[at] = random.byte(),
         2 if at < path.len() => drop(path.remove(at)),
         3 => path.truncate(at),
+        4 => drop(path.splice(at..at, random.pick(WIDE_SPACES).bytes())),
+        5 => drop(path.splice(at..at, random.pick(NO_SPACES).bytes())),
         _ => drop(path.splice(at..at, random.pick(FRAGMENTS).to_vec())),
     }
 }

@@ -73,6 +73,20 @@ fn written_by_hand() {
     string(b"0.005 in", Ok(127));
     string(b"1000.0000 mm", Ok(1_000_000));
     string(b"5\n\tmm", Ok(5_000));
+    for space in "\u{a0}\u{1680}\u{2000}\u{2003}\u{200a}\u{2028}\u{2029}\u{202f}\u{205f}\u{3000}\u{feff}".chars() {
+        string(format!("5{space}mm").as_bytes(), Ok(5_000));
+        string(format!("5 {space}{space}in").as_bytes(), Ok(127_000));
+        for malformed in ["_5 mm", "5 mm_", "5_", "5._5mm", "5m_m"] {
+            string(malformed.replace('_', &space.to_string()).as_bytes(), Err(20));
+        }
+    }
+    for other in "\u{85}\u{180e}\u{200b}\u{2060}".chars() {
+        string(format!("5{other}mm").as_bytes(), Err(20));
+    }
+    // The bytes of such a space, cut.
+    for cut in [&b"5\xa0mm"[..], b"5\xc2mm", b"5\xe2\x80mm", b"5\x80\x80mm"] {
+        string(cut, Err(20));
+    }
     string(b"0.0001 mm", Err(23));
     string(b"0.00005 in", Err(23));
     string(b"1000000.5 um", Err(23));
