@@ -7,6 +7,7 @@ use native.Mathlib.Omega.{arith}
 use lib.ListN.{length, getElem?}
 use Rattle.answers.specs.Ask.{Trail, lookup, run, value, missing, refused}
 use Rattle.rules.specs.Bytes.{Text}
+use Rattle.rules.specs.Sizes.{maxUnresolved}
 use Rattle.rules.specs.Refusals.{Refusal}
 use Rattle.rules.specs.Tree.{Pieces, no-pieces, nodePiece, substituted, rootNode}
 use Rattle.rules.specs.Values.{Answer}
@@ -14,7 +15,7 @@ use Rattle.rules.specs.Settled.{Given}
 use Rattle.rules.specs.Unresolved.{Unresolved}
 use Rattle.rules.specs.Documents.{Setting, ruleOf, countOf}
 use Rattle.rules.specs.Sheet.{trailSize}
-use Rattle.theory.specs.Choices.{getElem-none}
+use Rattle.theory_text.specs.Choices.{getElem-none}
 use Rattle.theory.specs.DistinctAnswers.{laid-distinct}
 use Rattle.theory.specs.Resolving.{laid-within}
 use Rattle.theory_check.specs.Steps.{nextNumber, check-needs, check-refused}
@@ -28,11 +29,12 @@ use Rattle.eval_index.specs.Contracts.{ItemIs}
 use Rattle.eval_state.specs.State.{State}
 use Rattle.eval_questions.specs.Contracts as question
 use Rattle.eval_unresolved.specs.Contracts as outcome
-use Rattle.eval_unresolved.specs.declared.Outcome.{Outcome}
+use Rattle.eval_sizes.specs.Outcomes.{OutcomeWithin}
+use Rattle.eval_sizes.specs.declared.Outcome.{Outcome}
 use Rattle.check_entries.specs.Contracts as entry
 use Rattle.check_entries.specs.declared.Reached.{Reached}
 use Rattle.check_entries.specs.declared.Checked.{Checked}
-use Rattle.check_trails.specs.Contracts.{Known, CaseAsked, CaseIs, NumberAsked, NumberIs}
+use Rattle.check_trails.specs.Contracts.{Known, TrailAsked, CaseAsked, CaseIs}
 
 -- ---- the question that is asked
 
@@ -82,7 +84,7 @@ again R H = record { state = H; check = R .check; used = R .used; text-used = R 
 module _ {T B room : List ℕ} {o : Outcome} {b : ℕ} {at : Reached} {trail text : List ℕ} (A : CaseAsked T B room o b at trail text) where
   pub answer-asked : {e : Extent} → o ≡ Outcome.Done e → entry.AnswerAsked T B room (e .out) b at trail text
   answer-asked {e} q =
-      let w : outcome.OutcomeWithin (Outcome.Done e) = subst outcome.OutcomeWithin q (A .within) in
+      let w : OutcomeWithin (Outcome.Done e) = subst OutcomeWithin q (A .within) in
       record {
         full = record { whole = A .whole; rec = w .0; text = w .1 };
         number = A .number;
@@ -132,7 +134,18 @@ module _ {T B room : List ℕ} {o : Outcome} {b : ℕ} {at : Reached} {trail tex
 
 pub ruleset cases = (answer-asked, undefined-asked, case-done, case-undefined, case-needs, case-refused)
 
--- ---- the number
+-- ---- a number that has no answer yet
+
+pub record NumberAsked (T B E w room : List ℕ) (b : ℕ) (at : Reached) (trail text : List ℕ) : Type 0 where
+  pub lent : TrailAsked T B E w room b trail text
+  pub number : b < maxUnresolved
+  pub entry : at .used .0 + 3 ≤ length trail
+  pub texts : at .text .0 ≤ length text
+
+pub record NumberIs (E : List ℕ) (b : ℕ) (at : Reached) (trail text T T′ B B′ : List ℕ) (r : Checked) : Type 0 where
+  pub is : (x : Setting) (key : ℕ → Text) (items : ℕ) (S : Trail Answer) → Known x E → entry.Right x key items T B trail text at S → entry.Open x trail S b
+      → entry.CheckedBy x key items T′ B′ trail text r
+  pub further : entry.Further trail text at r
 
 module _ {T B E w room : List ℕ} {b : ℕ} {at : Reached} {trail text : List ℕ} (A : NumberAsked T B E w room b at trail text) {item : ℕ} (I : ItemIs T b item) where
   pub outcome-asked : question.Asked B E w room 0 item
@@ -170,5 +183,3 @@ module _ {T B E w room : List ℕ} {b : ℕ} {at : Reached} {trail text : List �
       is = λ x key items S K R N. let (H, C) = answered K R N I O in P .is x key items S (again R H) N C;
       further = P .further;
     }
-
-pub ruleset numbers = (outcome-asked, case-asked, number-is)

@@ -11,12 +11,17 @@ use Rattle.rules.specs.Values.{Answer}
 use Rattle.rules.specs.Documents.{Setting, countOf}
 use Rattle.rules.specs.Sheet.{trailSize, trailTextSize}
 use Rattle.theory_check.specs.Steps.{check-none}
+use Rattle.eval_index.specs.Contracts.{ItemIs}
+use Rattle.eval_sizes.specs.declared.Outcome.{Outcome}
+use Rattle.eval_questions.specs.Contracts.{Asked}
+use Rattle.eval_unresolved.specs.Contracts.{OutcomeIs}
 use Rattle.eval_state.specs.State.{State}
 use Rattle.check_entries.specs.Contracts as entry
 use Rattle.check_entries.specs.declared.Reached.{Reached}
 use Rattle.check_entries.specs.declared.Next.{Next}
 use Rattle.check_entries.specs.declared.Checked.{Checked}
-use Rattle.check_trails.specs.Contracts.{Known, TrailAsked, EntryAsked, NumberAsked, NumberIs, EntryIs, TrailIs}
+use Rattle.check_trails.specs.Contracts.{Known, TrailAsked, CaseAsked, CaseIs, EntryAsked, EntryIs, TrailIs}
+use Rattle.check_trails.proofs.Numbers.{NumberAsked, outcome-asked, case-asked, number-is}
 
 abbrev pub reached : ℕ → ℕ → Reached
 reached u t = record { used = record { 0 = u }; text = record { 0 = t } }
@@ -39,7 +44,7 @@ module _ {T B E w room : List ℕ} {count : ℕ} {at : Reached} {trail text : Li
     }
 
     module _ {b : ℕ} (q : n ≡ Next.Number b) where
-      pub number-asked : NumberAsked T B E w room b at trail text
+      number-asked : NumberAsked T B E w room b at trail text
       number-asked =
           let L = A .lent in
           let N = is-so q in
@@ -60,13 +65,26 @@ module _ {T B E w room : List ℕ} {count : ℕ} {at : Reached} {trail text : Li
             texts = A .texts;
           }
 
-      pub entry-number : {T′ B′ : List ℕ} {r : Checked} → NumberIs E b at trail text T T′ B B′ r → EntryIs E count at trail text T T′ B B′ r
-      entry-number P = record {
-        is = λ x key items S K c R l. P .is x key items S K R (is-so q .is x key items B text S (R .state) (R .check) (R .used) l c);
-        further = P .further;
-      }
+      pub entry-low : b < maxUnresolved
+      entry-low = number-asked .number
 
-pub ruleset entries = (next-asked, entry-wrong, number-asked, entry-number)
+      module _ {item : ℕ} (I : ItemIs T b item) where
+        pub entry-asks : Asked B E w room 0 item
+        entry-asks = outcome-asked number-asked I
+
+        module _ {w′ B₁ after : List ℕ} {o : Outcome} (O : OutcomeIs T E 0 item w w′ B B₁ o after) where
+          pub entry-case : CaseAsked T B₁ after o b at trail text
+          entry-case = case-asked number-asked I O
+
+          pub entry-number : {T′ B′ : List ℕ} {r : Checked} → CaseIs after o b at trail text T T′ B₁ B′ r → EntryIs E count at trail text T T′ B B′ r
+          entry-number P =
+              let N = number-is number-asked I O P in
+              record {
+                is = λ x key items S K c R l. N .is x key items S K R (is-so q .is x key items B text S (R .state) (R .check) (R .used) l c);
+                further = N .further;
+              }
+
+pub ruleset entries = (next-asked, entry-wrong, entry-low, entry-asks, entry-case, entry-number)
 
 -- ---- the trail
 

@@ -19,8 +19,9 @@ use Rattle.eval_records.specs.Contracts.{mostBytes}
 use Rattle.eval_stack.specs.Model.{Work}
 use Rattle.eval_state.specs.Memories.{jobTable, jobBytes}
 use Rattle.eval_state.specs.State.{State}
-use Rattle.eval_unresolved.specs.Contracts.{OutcomeWithin, OutcomeCase}
-use Rattle.eval_unresolved.specs.declared.Outcome.{Outcome}
+use Rattle.eval_sizes.specs.Outcomes.{OutcomeWithin}
+use Rattle.eval_unresolved.specs.Contracts.{OutcomeCase}
+use Rattle.eval_sizes.specs.declared.Outcome.{Outcome}
 use Rattle.check_entries.specs.Contracts.{Right, Open, Refuted, CheckedBy, Further}
 use Rattle.check_entries.specs.declared.Reached.{Reached}
 use Rattle.check_entries.specs.declared.Checked.{Checked}
@@ -52,12 +53,6 @@ pub record EntryAsked (T B E w room : List ℕ) (count : ℕ) (at : Reached) (tr
   pub used : at .used .0 ≤ length trail
   pub texts : at .text .0 ≤ length text
 
-pub record NumberAsked (T B E w room : List ℕ) (b : ℕ) (at : Reached) (trail text : List ℕ) : Type 0 where
-  pub lent : TrailAsked T B E w room b trail text
-  pub number : b < maxUnresolved
-  pub entry : at .used .0 + 3 ≤ length trail
-  pub texts : at .text .0 ≤ length text
-
 -- the outcome of question b, whose value is within the room
 pub record CaseAsked (T B room : List ℕ) (o : Outcome) (b : ℕ) (at : Reached) (trail text : List ℕ) : Type 0 where
   pub whole : Room room
@@ -75,11 +70,6 @@ pub record CaseAsked (T B room : List ℕ) (o : Outcome) (b : ℕ) (at : Reached
 pub record CaseIs (room : List ℕ) (o : Outcome) (b : ℕ) (at : Reached) (trail text T T′ B B′ : List ℕ) (r : Checked) : Type 0 where
   pub is : (x : Setting) (key : ℕ → Text) (items : ℕ) (S : Trail Answer) → Right x key items T B trail text at S → Open x trail S b
       → OutcomeCase key items T room (run (lookup S) (ruleOf x b)) o → CheckedBy x key items T′ B′ trail text r
-  pub further : Further trail text at r
-
-pub record NumberIs (E : List ℕ) (b : ℕ) (at : Reached) (trail text T T′ B B′ : List ℕ) (r : Checked) : Type 0 where
-  pub is : (x : Setting) (key : ℕ → Text) (items : ℕ) (S : Trail Answer) → Known x E → Right x key items T B trail text at S → Open x trail S b
-      → CheckedBy x key items T′ B′ trail text r
   pub further : Further trail text at r
 
 pub record EntryIs (E : List ℕ) (count : ℕ) (at : Reached) (trail text T T′ B B′ : List ℕ) (r : Checked) : Type 0 where

@@ -7,11 +7,11 @@ use check_entries::check_answer;
 use check_entries::check_undefined;
 use check_entries::next_number;
 use eval_index::item_of;
-use eval_unresolved::Outcome;
+use eval_sizes::Outcome;
 use eval_unresolved::unresolved_value;
 use text_chars::RecAt;
 use text_chars::TextAt;
-ghost use Rattle.check_trails.specs.Contracts.{CaseAsked, CaseIs, NumberAsked, NumberIs, EntryAsked, EntryIs, TrailAsked, TrailIs};
+ghost use Rattle.check_trails.specs.Contracts.{CaseAsked, CaseIs, EntryAsked, EntryIs, TrailAsked, TrailIs};
 
 // The outcome of question b held against its entry; a value of it is in the room.
 fn check_outcome(
@@ -39,28 +39,7 @@ fn check_outcome(
     }
 }
 
-// What an entry comes to whose number b has no answer yet.
-fn check_number(
-    table: &mut [u16],
-    bytes: &mut [u8],
-    environment: &[u8],
-    work: &mut [u16],
-    room: &mut [u8],
-    b: usize,
-    at: Reached,
-    trail: &[u8],
-    text: &[u8],
-) -> Checked
-    requires { ⌜ NumberAsked (now table) (now bytes) (now environment) (now work) (now room) b at (now trail) (now text) ⌝ }
-    ensures { λ r. ⌜ NumberIs (now (environment .entry)) b at (now (trail .entry)) (now (text .entry))
-        (now (table .entry)) (now (table .exit)) (now (bytes .entry)) (now (bytes .exit)) r ⌝ }
-{
-    let item = item_of(table, b);
-    let outcome = unresolved_value(table, bytes, environment, work, 0, room, item);
-    check_outcome(table, bytes, room, outcome, b, at, trail, text)
-}
-
-// The entry that begins behind those so far.
+// The entry that begins behind those so far: its number is to have no answer yet, and is evaluated.
 fn check_entry(
     table: &mut [u16],
     bytes: &mut [u8],
@@ -78,8 +57,12 @@ fn check_entry(
 {
     let used = at.used;
     match next_number(table, trail, used, count) {
-        Next::Number(b) => check_number(table, bytes, environment, work, room, b, at, trail, text),
         Next::Wrong => Checked::Wrong,
+        Next::Number(b) => {
+            let item = item_of(table, b);
+            let outcome = unresolved_value(table, bytes, environment, work, 0, room, item);
+            check_outcome(table, bytes, room, outcome, b, at, trail, text)
+        }
     }
 }
 

@@ -1,2 +1,1 @@
-pub mod LookUpJob
 pub mod ResolveJob

@@ -13,7 +13,7 @@ use Rattle.rules.specs.Bytes.{Text, same}
 use Rattle.rules.specs.Tree.{Node, simple, array, object, unresolved, Fields, no-fields, field, Root, rootNode}
 use Rattle.rules.specs.Layers.{hasKey}
 use Rattle.rules.specs.Unresolved.{withField}
-use Rattle.theory.specs.Choices.{by-test}
+use Rattle.theory_text.specs.Choices.{by-test}
 use Rattle.doc_items.specs.Codes.{unresolvedItem, asMember, kindAt, keyAt, keylenAt, textAt, textlenAt, numberAt, nextAt}
 use Rattle.doc_items.specs.Holds.{TextAt}
 use Rattle.doc_items.specs.Parts.{numbers}

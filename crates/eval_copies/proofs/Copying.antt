@@ -16,12 +16,11 @@ use Rattle.eval_writer.specs.Contracts.{Puts, Wrote, KeyWrote}
 use Rattle.eval_writer.specs.Composition.{wrote-none, wrote-then, head-wrote}
 use Rattle.eval_writer.specs.declared.Out.{Out}
 use Rattle.eval_records.specs.Model.{Act, act, then, under, pairC, keyC, copyK, plainC, wordC}
-use Rattle.eval_records.specs.Contracts.{mostBytes, farthest, Span, CopiedIs, HeadIs}
+use Rattle.eval_records.specs.Contracts.{Span, CopiedIs, HeadIs}
 use Rattle.eval_records.specs.declared.Copied.{Copied}
 use Rattle.eval_copies.specs.Model.{copyM, copyMs, copyBy, copyH, copyV}
-use Rattle.eval_copies.specs.Contracts.{ValueIs, HeldIs, MembersIs, MemberIs, DeeperIs, DeepestIs, CopyIs}
+use Rattle.eval_copies.specs.Contracts.{ValueIs, HeldIs, MembersIs, MemberIs, DeeperIs, DeepestIs}
 use Rattle.eval_copies.specs.Steps.{held-step, members-step, members-cut}
-use Rattle.eval_copies.specs.Copies.{copy-read}
 
 -- ---- the cycle
 
@@ -198,18 +197,3 @@ pub deeper-is : {m : Copied} → DeeperIs m (record { next = m .next; out = m .o
 deeper-is = record { next = refl; out = refl; deep = refl }
 
 pub ruleset deepest-laws = (deepest-later, deepest-earlier)
-
--- ---- a finished value
-
-pub copy-starts : {s : List ℕ} {p : ℕ} {o : Out} → length s ≤ mostBytes → o .rec .0 ≤ farthest → o .text .0 ≤ farthest → Span s p o
-copy-starts l r t = record { rec = omega arith; text = omega arith; bytes = l }
-
-pub copy-is : {T s : List ℕ} {tb p : ℕ} {o : Out} {c : Copied} {b a : List ℕ} → ValueIs 32 T s tb p o c b a → CopyIs T s tb p o c b a
-copy-is {T} {s} {tb} {p} {o} {c} {b} {a} w =
-    record {
-      copied = λ key v u d k h.
-          let q = rw (copy-read key T s tb v 32 p (o .text .0) u d k h) at (w .is) in
-          (record { is = q .is }, q .deep);
-    }
-
-pub ruleset finished-laws = (copy-starts, copy-is)

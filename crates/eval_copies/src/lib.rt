@@ -1,15 +1,13 @@
 // A finished value copied into a value's room with all that is inside it: its records as kept, its texts from where the room has come to.
 // Computes: Sheet
 use codes::kinds;
-use codes::limits;
+use eval_record_copies::copy_head;
+use eval_record_copies::copy_key;
+use eval_record_copies::copy_plain;
+use eval_record_copies::copy_word;
 use eval_records::Copied;
-use eval_records::copy_head;
-use eval_records::copy_key;
-use eval_records::copy_plain;
-use eval_records::copy_word;
 use eval_records::kind_at;
 use eval_writer::Out;
-use eval_writer::Source;
 use sheet_forms::HEAD;
 use sheet_forms::Shape;
 use sheet_forms::shape_of;
@@ -20,7 +18,7 @@ ghost use Prim.Native.Nat.{_+_, _≤_};
 ghost use lib.ListN.{length};
 ghost use Rattle.eval_writer.specs.Contracts.{Room};
 ghost use Rattle.eval_records.specs.Contracts.{mostBytes, Span};
-ghost use Rattle.eval_copies.specs.Contracts.{mostLevels, DeeperIs, DeepestIs, CopyAsked, CopyIs};
+ghost use Rattle.eval_copies.specs.Contracts.{mostLevels, DeeperIs, DeepestIs};
 ghost use Rattle.eval_copies.specs.Contracts.{ValueIs, HeldIs, MembersIs, MemberIs};
 
 // ---- depth
@@ -134,7 +132,7 @@ fn copy_held(
     one_deeper(m)
 }
 
-// So many members, one behind the other. Each takes a byte at least, so however many are promised, the bytes' end is soon met.
+/// So many members, one behind the other. Each takes a byte at least, so however many are promised, the bytes' end is soon met.
 pub fn copy_members(
     room: &mut [u8],
     table: &[u16],
@@ -183,23 +181,4 @@ fn copy_member(
     let next = k.next;
     let o = k.out;
     copy_value(room, table, bytes, texts, next, o, levels)
-}
-
-/// Copies a finished value: its record is at an offset of the source's records.
-pub fn copy_finished(
-    room: &mut [u8],
-    table: &[u16],
-    bytes: &[u8],
-    src: Source,
-    at: RecAt,
-    o: Out,
-) -> Copied
-    requires { ⌜ CopyAsked (now bytes) src (at .0) o (now room) ⌝ }
-    ensures { λ r. ⌜ CopyIs (now (table .entry)) (now (bytes .entry)) (src .text .0) (src .rec .0 + at .0) o r
-        (now (room .entry)) (now (room .exit)) ⌝ }
-{
-    let rec = src.rec;
-    let texts = src.text;
-    let p = rec.0 + at.0;
-    copy_value(room, table, bytes, texts, RecAt(p), o, limits::NESTING)
 }

@@ -24,8 +24,8 @@ fn start_entry(rest: &mut [u8], kind: u8, b: usize)
     rest[2] = low(b);
 }
 
-/// Lays the answer in the room as the entry of the unresolved value b, into the rest of the trail; its texts into the text part from t on.
-pub fn lay_entry(room: &[u8], o: Out, b: usize, t: TextAt, rest: &mut [u8], text: &mut [u8])
+// Lays the answer in the room as the entry of the unresolved value b, into the rest of the trail; its texts into the text part from t on.
+fn lay_entry(room: &[u8], o: Out, b: usize, t: TextAt, rest: &mut [u8], text: &mut [u8])
     requires { ⌜ EntryAsked (now room) o (t .0) (now rest) (now text) ⌝ }
     ensures { λ _. ⌜ EntryIs (now (room .entry)) o b (t .0)
         (now (rest .entry)) (now (rest .exit)) (now (text .entry)) (now (text .exit)) ⌝ }
@@ -34,8 +34,8 @@ pub fn lay_entry(room: &[u8], o: Out, b: usize, t: TextAt, rest: &mut [u8], text
     lay_value(room, o, t, &mut rest[ENTRY..], text);
 }
 
-/// Lays the entry of the unresolved value b, which is undefined.
-pub fn lay_undefined(b: usize, rest: &mut [u8])
+// Lays the entry of the unresolved value b, which is undefined.
+fn lay_undefined(b: usize, rest: &mut [u8])
     requires { ⌜ 3 ≤ length (now rest) ⌝ }
     ensures { λ _. ⌜ UndefinedIs b (now (rest .entry)) (now (rest .exit)) ⌝ }
 {

@@ -11,7 +11,7 @@ use Rattle.rules.specs.Values.{Answer}
 use Rattle.rules.specs.Tree.{Root, fields, elements, rootNode}
 use Rattle.rules.specs.Unresolved.{Unresolved}
 use Rattle.rules.specs.Documents.{Setting, countOf}
-use Rattle.theory.specs.Choices.{getElem-none}
+use Rattle.theory_text.specs.Choices.{getElem-none}
 use Rattle.doc_items.specs.Parts.{numbers, letters}
 use Rattle.doc_items.specs.Holds.{NodeAt}
 use Rattle.doc_items.specs.Room.{capacity, indexAt, textRoom}

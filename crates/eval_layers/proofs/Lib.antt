@@ -1,4 +1,3 @@
 pub mod Walks
 pub mod Picks
-pub mod Depths
 pub mod Tops

@@ -1,6 +1,6 @@
 // Layers on the stack. The layers of a path stand on it one above the other, the last written on top; one key deeper they stand above
 // them. All are walked at once: the answers do not change meanwhile, and a mark says where a missing one ended the walk. Keys are numbers.
-// Computes: Layers (deeper, gather, by the model in specs/Model)
+// Computes: Layers (gather; deeper, with eval_deeper; by the model in specs/Model)
 use eval_answers::Answered;
 use eval_members::Member;
 use eval_members::View;
@@ -10,11 +10,11 @@ ghost use mathlib.Core.Path.{_≡_};
 ghost use Prim.Native.Nat.{_<_, _-_};
 ghost use Rattle.doc_items.specs.Room.{numberBound};
 ghost use Rattle.eval_members.specs.Contracts.{Few};
-ghost use Rattle.eval_members.specs.Model.{viewAt, membersOf};
+ghost use Rattle.eval_members.specs.Model.{membersOf};
 ghost use Rattle.eval_stack.specs.Model.{entries};
-ghost use Rattle.eval_stack.specs.Contracts.{Stack, Segment};
-ghost use Rattle.eval_layers.specs.Model.{pushLayerC, pushNamedC, pushMembersC, insideBy, ofOtherC, ofEndC};
-ghost use Rattle.eval_layers.specs.Contracts.{walked, WalkedIs, DeeperIs, GatherIs};
+ghost use Rattle.eval_stack.specs.Contracts.{Stack};
+ghost use Rattle.eval_layers.specs.Model.{pushLayerC, pushNamedC, pushMembersC, ofOtherC, ofEndC};
+ghost use Rattle.eval_layers.specs.Contracts.{walked, WalkedIs, GatherIs};
 
 /// Where a walk ended: at the end of the layers, or at an unresolved value that has no answer yet.
 pub enum Stuck {
@@ -126,56 +126,6 @@ pub fn push_members_named(
             }
         }
     }
-}
-
-// One layer, above what those below it gave.
-fn inside(
-    table: &[u16],
-    records: &[u8],
-    work: &mut [u16],
-    base: usize,
-    walk: Walked,
-    key: usize,
-    layer: usize,
-) -> Walked
-    requires { ⌜ Few (now records) × Stack base (walk .top) (now work) ⌝ }
-    ensures { λ r. ⌜ WalkedIs base (now (work .entry)) (now (work .exit)) r (insideBy (now (table .entry)) (now (records .entry)) key
-        (entries - base) (walked (now (work .entry)) base walk) (viewAt (now (table .entry)) (now (records .entry)) layer)) ⌝ }
-{
-    match eval_members::view_of(table, records, layer) {
-        View::Other => Walked {
-            top: base,
-            stuck: Stuck::No,
-        },
-        View::Object { first, end } => {
-            push_members_named(table, records, work, base, walk, key, first, end)
-        }
-    }
-}
-
-/// The layers one key deeper, from base on, of the layers of a part.
-pub fn deeper(
-    table: &[u16],
-    records: &[u8],
-    work: &mut [u16],
-    part: Part,
-    base: usize,
-    key: usize,
-) -> Walked
-    requires { ⌜ Few (now records) × Segment (part .lo) (part .hi) base (now work) ⌝ }
-    ensures { λ r. ⌜ DeeperIs (now (table .entry)) (now (records .entry)) (part .lo) (part .hi) (part .stuck) base key
-        (now (work .entry)) (now (work .exit)) r ⌝ }
-{
-    let hi = part.hi;
-    let stuck = part.stuck;
-    let mut i = part.lo;
-    let mut walk = Walked { top: base, stuck };
-    while i < hi {
-        let layer = code_at(work, i);
-        walk = inside(table, records, work, base, walk, key, layer);
-        i += 1;
-    }
-    walk
 }
 
 /// What a layer that is no object comes to below the objects from base to top.

@@ -1,2 +1,3 @@
 pub mod Simples
 pub mod Leaves
+pub mod Finished

@@ -7,21 +7,23 @@ use doc_items::COLUMN_TEXTLEN;
 use doc_items::PIECE;
 use doc_items::WIDTH;
 use doc_items::number_at;
-use eval_copies::copy_finished;
+use eval_copies::copy_value;
 use eval_extents::clip;
 use eval_extents::clip_out;
+use eval_records::Copied;
+use eval_words::put_key;
+use eval_words::put_string;
 use eval_worked::Worked;
 use eval_writer::Out;
 use eval_writer::Source;
-use eval_writer::put_key;
 use eval_writer::put_plain;
-use eval_writer::put_string;
 use sheet_forms::HEAD;
 use text_chars::RecAt;
 use text_chars::TextAt;
 use text_chars::TextLen;
-ghost use Prim.Native.Nat.{_<_, _≤_};
+ghost use Prim.Native.Nat.{_+_, _<_, _≤_};
 ghost use Rattle.doc_items.specs.Room.{capacity};
+ghost use Rattle.eval_copies.specs.Contracts.{CopyAsked, CopyIs};
 ghost use Rattle.eval_writer.specs.Contracts.{Room, NearOut, longestText};
 ghost use Rattle.eval_writer.specs.Building.{inside};
 ghost use Rattle.eval_extents.specs.Contracts.{NotPast, ClipOutIs};
@@ -58,6 +60,25 @@ pub fn simple_value(room: &mut [u8], table: &[u16], bytes: &[u8], item: usize, o
     let out = put_simple(room, table, bytes, item, o);
     let e = clip(out, 0);
     Worked::Done(e)
+}
+
+// Copies a finished value: its record is at an offset of the source's records.
+fn copy_finished(
+    room: &mut [u8],
+    table: &[u16],
+    bytes: &[u8],
+    src: Source,
+    at: RecAt,
+    o: Out,
+) -> Copied
+    requires { ⌜ CopyAsked (now bytes) src (at .0) o (now room) ⌝ }
+    ensures { λ r. ⌜ CopyIs (now (table .entry)) (now (bytes .entry)) (src .text .0) (src .rec .0 + at .0) o r
+        (now (room .entry)) (now (room .exit)) ⌝ }
+{
+    let rec = src.rec;
+    let texts = src.text;
+    let p = rec.0 + at.0;
+    copy_value(room, table, bytes, texts, RecAt(p), o, limits::NESTING)
 }
 
 /// A finished value, copied with all that is in it: its record is at an offset of the source's records.

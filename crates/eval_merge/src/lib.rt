@@ -3,11 +3,11 @@
 use codes::limits;
 use doc_items::CAPACITY;
 use eval_extents::Extent;
+use eval_objects::object_value;
 use eval_stack::push;
 use eval_state::PAIR_RECORDS;
 use eval_state::PAIR_TEXTS;
 use eval_values::LEVELS;
-use eval_values::object_value;
 use eval_worked::Worked;
 use eval_writer::Out;
 use eval_writer::Source;

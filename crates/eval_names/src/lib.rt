@@ -96,8 +96,8 @@ fn find_built(env: &[u8], name: &[u8], used: usize) -> Found
     find(env, &name[1..used])
 }
 
-/// The text in an environment of the path of the substitution at item i: its elements joined by dots are the name.
-pub fn name_in(table: &[u16], texts: &[u8], env: &[u8], name: &mut [u8], i: usize) -> Found
+// The text in an environment of the path of the substitution at item i: its elements joined by dots are the name.
+fn name_in(table: &[u16], texts: &[u8], env: &[u8], name: &mut [u8], i: usize) -> Found
     requires { ⌜ NameAsked (now env) (now name) i ⌝ }
     ensures { λ r. ⌜ NameIs (now (table .entry)) (now (texts .entry)) (now (env .entry)) i r ⌝ }
 {

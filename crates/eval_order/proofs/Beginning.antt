@@ -17,7 +17,7 @@ use Rattle.rules.specs.Refusals.{placed}
 use Rattle.rules.specs.Values.{Answer}
 use Rattle.rules.specs.Unresolved.{Unresolved}
 use Rattle.rules.specs.Documents.{Setting, countOf, firstByte}
-use Rattle.theory.specs.Choices.{getElem-none}
+use Rattle.theory_text.specs.Choices.{getElem-none}
 use Rattle.theory_order.specs.Running.{begun-push}
 use Rattle.theory_order.specs.Contracts.{Task, questionsOf, barOf}
 use Rattle.theory_order.specs.WorkLaws.{bar-circular, bar-excess, bar-free}

@@ -8,14 +8,14 @@ ghost use Rattle.eval_members.specs.Contracts.{Few};
 ghost use Rattle.eval_stack.specs.Contracts.{Stack};
 ghost use Rattle.eval_paths.specs.Model.{onwardC, parted, PartIs, WalkPathIs};
 
-/// The layers one key deeper, right above these.
-pub fn onward(table: &[u16], records: &[u8], work: &mut [u16], part: Part, key: usize) -> Part
+// The layers one key deeper, right above these.
+fn onward(table: &[u16], records: &[u8], work: &mut [u16], part: Part, key: usize) -> Part
     requires { ⌜ Few (now records) × Stack (part .lo) (part .hi) (now work) ⌝ }
     ensures { λ r. ⌜ PartIs (now (work .entry)) (part .hi) (now (work .exit)) r (onwardC (now (table .entry)) (now (records .entry)) key
         (parted (now (work .entry)) part)) ⌝ }
 {
     let hi = part.hi;
-    let walk = eval_layers::deeper(table, records, work, part, hi, key);
+    let walk = eval_deeper::deeper(table, records, work, part, hi, key);
     let stuck = walk.stuck;
     Part {
         lo: hi,

@@ -20,23 +20,15 @@ use Rattle.eval_stack.specs.Pushes.{same-lower, push-grows}
 use Rattle.eval_layers.specs.Contracts.{GatherIs}
 use Rattle.eval_layers.specs.declared.Part.{Part}
 use Rattle.eval_layers.specs.declared.Taken.{Taken}
-use Rattle.eval_routes.specs.Contracts.{RouteIs, PathKeysIs}
-use Rattle.eval_routes.specs.declared.Route.{Route}
-use Rattle.eval_references.specs.Contracts.{LayersForIs}
+use Rattle.eval_references.specs.Contracts.{PathLayersIs}
 use Rattle.eval_names.specs.Contracts.{askedOf, AskedIs, substitution-at}
 use Rattle.eval_names.specs.declared.Asked.{Asked}
 use Rattle.eval_state.specs.Memories.{answersOf}
-use Rattle.eval_pieces.specs.Contracts.{Lent, PathLayersIs, PieceCase, Inside, EnvironmentIs, ReferenceGiven, ReferenceIs, LiteralGiven, LiteralIs, PieceIs}
+use Rattle.eval_pieces.specs.Contracts.{Lent, PieceCase, Inside, EnvironmentIs, ReferenceGiven, ReferenceIs, LiteralGiven, LiteralIs, PieceIs}
 use Rattle.eval_pieces.specs.Tops.{gathered-low, gathered-high}
 use Rattle.eval_pieces.specs.References.{reference-nothing, reference-needs, reference-one, reference-merged}
 use Rattle.eval_pieces.specs.Literals.{literal-kind, literal-one, literal-merged}
 use Rattle.eval_pieces.specs.declared.Piece.{Piece}
-
--- ---- the layers of a path
-
-pub path-layers : {T X R : List ℕ} {base item i : ℕ} {w w′ : List ℕ} {r : Part} {x : Route} {b k : List ℕ} → RouteIs T i x → PathKeysIs X T x b k
-    → LayersForIs T R k (x .count) item base w w′ r → PathLayersIs T X R base item i w w′ r
-path-layers {x = x} {b = b} {k = k} h f l = record { route = x; routed = h; blank = b; keys = k; found = f; layers = l }
 
 -- ---- the environment
 

@@ -28,12 +28,8 @@ use Rattle.doc_items.specs.Room.{capacity, textRoom, trailAt}
 use Rattle.read_numbering.specs.Contracts.{PathFits}
 use Rattle.eval_stack.specs.Model.{entries, Work}
 use Rattle.eval_stack.specs.Contracts.{Same}
-use Rattle.eval_layers.specs.declared.Part.{Part}
 use Rattle.eval_tables.specs.Finished.{Memory}
 use Rattle.eval_tables.specs.Tables.{Number, WrittenAt, Tables}
-use Rattle.eval_routes.specs.Contracts.{RouteIs, PathKeysIs}
-use Rattle.eval_routes.specs.declared.Route.{Route}
-use Rattle.eval_references.specs.Contracts.{LayersForIs}
 use Rattle.eval_references.specs.Documents.{Standing, UnresolvedAt}
 use Rattle.eval_names.specs.Contracts.{SubstitutionAt}
 use Rattle.eval_state.specs.Memories.{jobBytes, answersOf}
@@ -55,16 +51,6 @@ pub record Lent (B E w : List ℕ) (base item i : ℕ) : Type 0 where
 pub record EnvironmentAsked (E : List ℕ) (i : ℕ) : Type 0 where
   pub size : length E ≤ maxEnvironment
   pub item : i < capacity
-
--- ---- the layers of a path, by the numbers of its elements
-
-pub record PathLayersIs (T X R : List ℕ) (base item i : ℕ) (w w′ : List ℕ) (r : Part) : Type 0 where
-  pub route : Route
-  pub routed : RouteIs T i route
-  pub blank : List ℕ
-  pub keys : List ℕ
-  pub found : PathKeysIs X T route blank keys
-  pub layers : LayersForIs T R keys (route .count) item base w w′ r
 
 -- ---- what a piece comes to
 

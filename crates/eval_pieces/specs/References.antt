@@ -34,13 +34,14 @@ use Rattle.eval_taken.specs.Uses.{Merging, merges}
 use Rattle.eval_routes.specs.Elements.{item-read}
 use Rattle.eval_paths.specs.Model.{parted}
 use Rattle.eval_paths.specs.WalkPath.{Roomy}
+use Rattle.eval_references.specs.Contracts.{PathLayersIs}
 use Rattle.eval_references.specs.Documents.{PathNumbers}
 use Rattle.eval_references.specs.LayersFor.{layers-show}
 use Rattle.eval_value_laws.specs.Counting.{NoObject, one-low, merged-low, merged-high}
 use Rattle.eval_value_laws.specs.OneRoom.{one-elements}
 use Rattle.eval_value_laws.specs.Contracts.{Ground, LayerFits, LayerGiven, ObjectsGiven, mergedBy}
 use Rattle.eval_value_laws.specs.Given.{value-by}
-use Rattle.eval_pieces.specs.Contracts.{levels, PathLayersIs, ReferenceGiven, OneOf, MergedOf}
+use Rattle.eval_pieces.specs.Contracts.{levels, ReferenceGiven, OneOf, MergedOf}
 use Rattle.eval_pieces.specs.Rooms.{tops-shorter, Light, path-light}
 use Rattle.eval_pieces.specs.Heights.{path-low}
 

@@ -10,9 +10,7 @@ use eval_layers::Taken;
 use eval_layers::gather;
 use eval_names::Asked;
 use eval_names::or_environment;
-use eval_references::layers_for;
-use eval_routes::path_keys;
-use eval_routes::route_of;
+use eval_references::path_layers;
 use eval_stack::push;
 use text_chars::DocAt;
 use text_chars::EnvAt;
@@ -21,7 +19,7 @@ ghost use Prim.Native.Nat.{_<_, _≤_};
 ghost use Rattle.doc_items.specs.Room.{capacity};
 ghost use Rattle.eval_members.specs.Contracts.{Few};
 ghost use Rattle.eval_stack.specs.Model.{entries, Work};
-ghost use Rattle.eval_pieces.specs.Contracts.{Lent, PathLayersIs, EnvironmentAsked, EnvironmentIs, LiteralIs, ReferenceIs, PieceIs};
+ghost use Rattle.eval_pieces.specs.Contracts.{Lent, EnvironmentAsked, EnvironmentIs, LiteralIs, ReferenceIs, PieceIs};
 
 /// What a piece comes to.
 pub enum Piece {
@@ -37,27 +35,6 @@ pub enum Piece {
     Needs(usize),
     // a required substitution is undefined: refusal 9 at its place
     Missing(DocAt),
-}
-
-// The layers of the path of the substitution at item i, which stands in the unresolved value at another item.
-fn path_layers(
-    table: &[u16],
-    records: &[u8],
-    texts: &[u8],
-    work: &mut [u16],
-    base: usize,
-    item: usize,
-    i: usize,
-) -> Part
-    requires { ⌜ Few (now records) × Work (now work) × (base ≤ entries) × (0 < item) × (item < capacity) × (i < capacity) ⌝ }
-    ensures { λ r. ⌜ PathLayersIs (now (table .entry)) (now (texts .entry)) (now (records .entry)) base item i (now (work .entry))
-        (now (work .exit)) r ⌝ }
-{
-    let route = route_of(table, i);
-    let count = route.count;
-    let mut keys = [0u16; limits::PATH];
-    path_keys(table, texts, route, &mut keys);
-    layers_for(table, records, work, base, &keys, count, item)
 }
 
 // The substitution at item i, whose path is undefined.

@@ -15,7 +15,7 @@ use Rattle.rules.specs.Tree.{Root, fields, elements, rootNode, numberNode, numb
 use Rattle.rules.specs.Layers.{end}
 use Rattle.rules.specs.Unresolved.{Unresolved, Openness, fieldOpenness, withField, inNode, inElements, inFields, inPieces, unresolvedIn}
 use Rattle.rules.specs.Documents.{Document, Setting, Input, valid, limited, ofRoot, readTree, readDocument, withEnvironment, inputs}
-use Rattle.theory.specs.Choices.{by-test, by-option}
+use Rattle.theory_text.specs.Choices.{by-test, by-option}
 use Rattle.theory.specs.FirstBytes.{IfGiven, is-given, not-given, of-given}
 use Rattle.theory.specs.JobRefusals.{Bounds, bad, good, bounds}
 use Rattle.theory.specs.Numbering.{Prepared, prepared, all-node}

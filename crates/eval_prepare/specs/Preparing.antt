@@ -11,7 +11,7 @@ use Rattle.rules.specs.Sheet.{trailSize, trailTextSize, trailTexts}
 use Rattle.rules.specs.Tree.{Node, unresolved, Root, fields, elements, rootNode, AllNode}
 use Rattle.rules.specs.Unresolved.{Unresolved}
 use Rattle.rules.specs.Documents.{Setting}
-use Rattle.theory.specs.Choices.{getElem-length}
+use Rattle.theory_text.specs.Choices.{getElem-length}
 use Rattle.theory.specs.Numbering.{Prepared}
 use Rattle.theory.specs.Reach.{InRange}
 use Rattle.doc_items.specs.Codes.{asMember}

@@ -1,22 +1,13 @@
-// One record of a finished value, read from a job's bytes and written into a value's room. Any bytes may stand there; what they come to is
-// counted, and never runs away.
+// What is read of a finished value's records in a job's bytes, and how far their copy has come. Any bytes may stand there. The copying of one
+// record stands in eval_record_copies; its promises are here (specs/Contracts), as others build on them.
 // Computes: Sheet
 use eval_writer::Out;
-use eval_writer::put_head;
-use eval_writer::put_key;
-use eval_writer::put_plain;
-use eval_writer::put_string;
-use sheet_forms::WORD;
 use sheet_forms::wide;
 use text_chars::RecAt;
-use text_chars::TextAt;
-use text_chars::TextLen;
 ghost use mathlib.Core.Path.{_≡_};
-ghost use Prim.Native.Nat.{_+_, _≤_};
-ghost use lib.ListN.{length, getD};
-ghost use Rattle.eval_writer.specs.Contracts.{Room, Near};
-ghost use Rattle.eval_records.specs.Model.{copyK, plainC, wordC};
-ghost use Rattle.eval_records.specs.Contracts.{mostBytes, Span, PairIs, CopiedIs, HeadIs};
+ghost use lib.ListN.{getD};
+ghost use Rattle.eval_writer.specs.Contracts.{Near};
+ghost use Rattle.eval_records.specs.Contracts.{PairIs};
 
 /// How far copying has come.
 pub struct Copied {
@@ -27,8 +18,6 @@ pub struct Copied {
     /// how deep it is nested
     pub deep: usize,
 }
-
-// ---- what is read
 
 /// The byte at a place, 0 past the end, which is no value's.
 pub fn kind_at(s: &[u8], at: RecAt) -> u8
@@ -50,81 +39,4 @@ pub fn pair_at(s: &[u8], at: RecAt) -> usize
     let high = wide(kind_at(s, RecAt(p)));
     let low = wide(kind_at(s, RecAt(p + 1)));
     high * 256 + low
-}
-
-// ---- one record
-
-/// The key of a member, where it has one.
-pub fn copy_key(room: &mut [u8], table: &[u16], bytes: &[u8], keyed: bool, c: Copied) -> Copied
-    requires { ⌜ Room (now room) × Span (now bytes) (c .next .0) (c .out) × (c .next .0 ≤ length (now bytes)) ⌝ }
-    ensures { λ r. ⌜ CopiedIs (now (bytes .entry)) 5 (copyK (now (table .entry)) (now (bytes .entry)) keyed (c .next .0)) (c .out) r
-        (now (room .entry)) (now (room .exit)) ⌝ }
-{
-    let at = c.next;
-    let p = at.0;
-    let o = c.out;
-    if keyed {
-        let k = pair_at(bytes, RecAt(p + 1));
-        let r = put_key(room, table, bytes, k, o);
-        return Copied {
-            next: RecAt(p + WORD),
-            out: r,
-            deep: 0,
-        };
-    }
-    Copied {
-        next: RecAt(p),
-        out: o,
-        deep: 0,
-    }
-}
-
-/// A value of one byte.
-pub fn copy_plain(room: &mut [u8], bytes: &[u8], kind: u8, at: RecAt, o: Out) -> Copied
-    requires { ⌜ Room (now room) × Span (now bytes) (at .0) o × (at .0 ≤ length (now bytes) + 5) ⌝ }
-    ensures { λ r. ⌜ CopiedIs (now (bytes .entry)) 10 (plainC kind (at .0)) o r (now (room .entry)) (now (room .exit)) ⌝ }
-{
-    let p = at.0;
-    let r = put_plain(room, kind, o);
-    Copied {
-        next: RecAt(p + 1),
-        out: r,
-        deep: 0,
-    }
-}
-
-/// A number or string; its text is counted from `texts` on.
-pub fn copy_word(
-    room: &mut [u8],
-    bytes: &[u8],
-    texts: TextAt,
-    kind: u8,
-    at: RecAt,
-    o: Out,
-) -> Copied
-    requires { ⌜ Room (now room) × Span (now bytes) (at .0) o × (at .0 ≤ length (now bytes) + 5) × (texts .0 ≤ mostBytes) ⌝ }
-    ensures { λ r. ⌜ CopiedIs (now (bytes .entry)) 10 (wordC (now (bytes .entry)) (texts .0) kind (at .0) (o .text .0)) o r
-        (now (room .entry)) (now (room .exit)) ⌝ }
-{
-    let p = at.0;
-    let from = pair_at(bytes, RecAt(p + 1));
-    let n = pair_at(bytes, RecAt(p + 3));
-    let r = put_string(room, bytes, kind, TextAt(texts.0 + from), TextLen(n), o);
-    Copied {
-        next: RecAt(p + WORD),
-        out: r,
-        deep: 0,
-    }
-}
-
-/// The record of an array or object, and how many members it has.
-pub fn copy_head(room: &mut [u8], bytes: &[u8], kind: u8, at: RecAt, o: Out) -> usize
-    requires { ⌜ Room (now room) × Span (now bytes) (at .0) o × (at .0 ≤ length (now bytes) + 5) ⌝ }
-    ensures { λ r. ⌜ HeadIs (now (bytes .entry)) kind (at .0) (o .rec .0) r (now (room .entry)) (now (room .exit)) ⌝ }
-{
-    let p = at.0;
-    let rec = o.rec;
-    let count = pair_at(bytes, RecAt(p + 1));
-    put_head(room, rec, kind, count);
-    count
 }

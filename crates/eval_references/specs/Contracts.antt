@@ -9,6 +9,8 @@ use Rattle.eval_layers.specs.Model.{Walk}
 use Rattle.eval_layers.specs.declared.Part.{Part}
 use Rattle.eval_layers.specs.Contracts.{walked}
 use Rattle.eval_layers.specs.declared.Walked.{Walked}
+use Rattle.eval_routes.specs.Contracts.{RouteIs, PathKeysIs}
+use Rattle.eval_routes.specs.declared.Route.{Route}
 use Rattle.eval_paths.specs.Model.{Layered, parted, walkPathC}
 use Rattle.eval_of_root.specs.Contracts.{OfRootIs}
 use Rattle.eval_back.specs.Contracts.{LooksBackIs}
@@ -45,3 +47,13 @@ pub data LayersC (T R keys : List ℕ) (count item base : ℕ) : Layered → Typ
 pub record LayersForIs (T R keys : List ℕ) (count item base : ℕ) (w w′ : List ℕ) (r : Part) : Type 0 where
   pub layers : LayersC T R keys count item base (parted w′ r)
   pub part : PartAbove base w w′ r
+
+-- ---- the layers of a path, by the numbers of its elements
+
+pub record PathLayersIs (T X R : List ℕ) (base item i : ℕ) (w w′ : List ℕ) (r : Part) : Type 0 where
+  pub route : Route
+  pub routed : RouteIs T i route
+  pub blank : List ℕ
+  pub keys : List ℕ
+  pub found : PathKeysIs X T route blank keys
+  pub layers : LayersForIs T R keys (route .count) item base w w′ r

@@ -1,24 +1,27 @@
 // The layers of a substitution's path, on the stack: looking back, those before the field of its unresolved value, level by level; else
 // those of the whole root.
 // Computes: Unresolved (layersFor)
+use codes::limits;
 use doc_items::number_at;
 use eval_back::field_around;
 use eval_back::looks_back;
+use eval_deeper::deeper;
 use eval_layers::Part;
 use eval_layers::Stuck;
-use eval_layers::deeper;
 use eval_layers::push_members_named;
 use eval_of_root::of_root;
 use eval_paths::walk_path;
+use eval_routes::path_keys;
+use eval_routes::route_of;
 ghost use Prim.Native.Nat.{_<_, _≤_};
 ghost use Rattle.doc_items.specs.Room.{capacity};
 ghost use Rattle.eval_members.specs.Contracts.{Few};
 ghost use Rattle.eval_stack.specs.Model.{entries, Work};
-ghost use Rattle.eval_references.specs.Contracts.{BeforeIs, LayersForIs};
+ghost use Rattle.eval_references.specs.Contracts.{BeforeIs, LayersForIs, PathLayersIs};
 
-/// The layers before the field whose whole value an item is, from base on, of a path that looks back there. From the root down to it: one
-/// key deeper than the layers so far, and above them the literal's earlier fields of that key.
-pub fn before(
+// The layers before the field whose whole value an item is, from base on, of a path that looks back there. From the root down to it: one
+// key deeper than the layers so far, and above them the literal's earlier fields of that key.
+fn before(
     table: &[u16],
     records: &[u8],
     work: &mut [u16],
@@ -85,4 +88,25 @@ pub fn layers_for(
         stuck,
     };
     walk_path(table, records, work, part, keys, count, 1)
+}
+
+/// The layers of the path of the substitution at item i, which stands in the unresolved value at another item.
+pub fn path_layers(
+    table: &[u16],
+    records: &[u8],
+    texts: &[u8],
+    work: &mut [u16],
+    base: usize,
+    item: usize,
+    i: usize,
+) -> Part
+    requires { ⌜ Few (now records) × Work (now work) × (base ≤ entries) × (0 < item) × (item < capacity) × (i < capacity) ⌝ }
+    ensures { λ r. ⌜ PathLayersIs (now (table .entry)) (now (texts .entry)) (now (records .entry)) base item i (now (work .entry))
+        (now (work .exit)) r ⌝ }
+{
+    let route = route_of(table, i);
+    let count = route.count;
+    let mut keys = [0u16; limits::PATH];
+    path_keys(table, texts, route, &mut keys);
+    layers_for(table, records, work, base, &keys, count, item)
 }

@@ -1,7 +1,7 @@
 // The root's value against the answers so far.
 // Computes: Unresolved (rootValue)
+use eval_objects::node_value;
 use eval_values::LEVELS;
-use eval_values::node_value;
 use eval_worked::Worked;
 use eval_writer::Out;
 use eval_writer::Source;

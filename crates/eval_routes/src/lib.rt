@@ -70,8 +70,8 @@ fn text_span(from: usize, to: usize) -> usize
     if n < LENGTHS { n } else { 0 }
 }
 
-/// The number of a path's element: 0 if no field has it as its key.
-pub fn path_key(table: &[u16], texts: &[u8], route: Route, i: usize) -> usize
+// The number of a path's element: 0 if no field has it as its key.
+fn path_key(table: &[u16], texts: &[u8], route: Route, i: usize) -> usize
     requires { ⌜ Close route × (i < route .count) ⌝ }
     ensures { λ r. ⌜ PathKeyIs (now (texts .entry)) (now (table .entry)) route i r ⌝ }
 {

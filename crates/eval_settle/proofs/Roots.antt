@@ -1,14 +1,18 @@
 -- The root is a layer, with room for all that is in it, and nothing is known of any answer.
-use mathlib.Core.Path.{_≡_, refl, sym, subst}
+use mathlib.Core.Path.{_≡_, refl, sym, subst, _∙_}
 use mathlib.Core.List.{List, []}
 use Prim.Native.Nat.{ℕ, _+_, _*_, _≤_}
 use native.Mathlib.Omega.{arith}
+use lib.ListN.{length}
 use Rattle.answers.specs.Ask.{lookup}
+use Rattle.rules.specs.Refusals.{Refusal}
 use Rattle.rules.specs.Tree.{object, array, Root, fields, elements, rootNode}
+use Rattle.rules.specs.Values.{Answer}
 use Rattle.rules.specs.Layers.{written}
 use Rattle.rules.specs.Weights.{weightOf}
 use Rattle.rules.specs.Sheet.{trailSize, trailTextSize}
 use Rattle.theory.specs.Numbering.{numbers-below}
+use Rattle.theory_order.specs.Walks.{Ended}
 use Rattle.theory_order.specs.Fitting.{Plain}
 use Rattle.theory_order.specs.Contracts.{Task, treeOf, settleRootC}
 use Rattle.theory_order.specs.Resolving.{kept-start}
@@ -19,8 +23,11 @@ use Rattle.eval_weights.specs.Weights.{mostWeight}
 use Rattle.eval_later.specs.Shows.{usedOf, written-used}
 use Rattle.eval_order.specs.declared.Progress.{Progress}
 use Rattle.eval_order.specs.declared.Step.{Step}
-use Rattle.eval_settle_laws.specs.Ready.{settlingRoom, Lasting, LayerFits, Given}
-use Rattle.eval_settle_laws.specs.Contracts.{NodeAsked, NodeIs, Settles, RootAsked, RootSettles, RootIs}
+use Rattle.eval_need_laws.specs.declared.Need.{Need}
+use Rattle.eval_need_laws.specs.Ground.{settlingRoom, Lasting, LayerFits}
+use Rattle.eval_settle_laws.specs.Given.{Given, groundOf, soundOf}
+use Rattle.eval_need_laws.specs.Needs.{needC, begins, LayerAsked, LayerIs}
+use Rattle.eval_settle_laws.specs.Contracts.{Settles, OneAsked, OneIs, RootAsked, RootSettles, RootIs}
 
 plain : (r : Root) → Plain (written (rootNode r))
 plain (fields fs) = tt
@@ -44,12 +51,13 @@ room-for t (elements es) e = record {
 }
 
 module _ {T B E w room trail text : List ℕ} {p : Progress} {budget : ℕ} (a : RootAsked T B E w room trail text p budget) where
-  abbrev given : Given T B E w room trail text p budget
-  given = record {
+  -- what is given, with whatever stack is lent
+  abbrev given : (x : List ℕ) → length x ≡ length w → Given T B E x room trail text p budget
+  given x l = record {
     whole = a .whole;
     bytes = a .bytes;
     environment = a .environment;
-    work = a .work;
+    work = omega (arith, a .work);
     t = a .t;
     task = a .task;
     budgeted = a .budgeted;
@@ -61,9 +69,11 @@ module _ {T B E w room trail text : List ℕ} {p : Progress} {budget : ℕ} (a :
     holding = a .holding;
   }
 
-  abbrev node : NodeAsked T B E w room trail text 0 0 p budget
-  node = record {
-    given = given;
+  abbrev layer : LayerAsked T B w 0 0
+  layer = record {
+    ground = groundOf (given w refl);
+    sound = soundOf (given w refl);
+    work = a .work;
     used = omega arith;
     l = written (rootNode (treeOf (a .t)));
     shown = shows (usedOf (a .key) (a .items) T B []) 0 (treeOf (a .t))
@@ -72,16 +82,24 @@ module _ {T B E w room trail text : List ℕ} {p : Progress} {budget : ℕ} (a :
     fits = room-for (a .t) (treeOf (a .t)) refl;
   }
 
-  pub root-node : NodeAsked T B E w room trail text 0 0 p budget
-  root-node = node
+  pub root-layer : LayerAsked T B w 0 0
+  root-layer = layer
 
-pub root-is : {E : List ℕ} {p : Progress} {budget : ℕ} {T T′ B B′ w w′ trail trail′ text text′ : List ℕ} {r : Step}
-    → NodeIs E 0 0 p budget 65 T T′ B B′ w w′ trail trail′ text text′ r → RootIs E p budget T T′ B B′ w trail trail′ text text′ r
-root-is {T′ = T′} {B′ = B′} {trail′ = trail′} {text′ = text′} {r = r} f = record { is = λ a. go a r (f .is (node a)) }
+  module _ {x : List ℕ} {need : Need} (N : LayerIs T B 0 0 w x need) where
+    abbrev one : OneAsked T B E x room trail text 0 need p budget
+    one = record { given = given x (N .left .len); used = omega arith; inner = N .is layer .inner; shows = N .is layer .shows }
+
+    pub root-one : OneAsked T B E x room trail text 0 need p budget
+    root-one = one
+
+pub root-is : {E : List ℕ} {p : Progress} {budget : ℕ} {T T′ B B′ w x w′ trail trail′ text text′ : List ℕ} {need : Need} {r : Step} → LayerIs T B 0 0 w x need
+    → OneIs E 0 need p budget 65 T T′ B B′ x w′ trail trail′ text text′ r → RootIs E p budget T T′ B B′ w trail trail′ text text′ r
+root-is {E} {p} {budget} {T} {T′} {B} {B′} {w} {x} {trail = trail} {trail′} {text} {text′} {need} {r} N f = record { is = λ a. go a r (f .is (one a N)) }
   where
-    go : {T B E w room trail text : List ℕ} {p : Progress} {budget : ℕ} (a : RootAsked T B E w room trail text p budget) (r : Step)
-        → Settles (given a) (settleRootC (a .t)) T′ B′ trail′ text′ r → RootSettles a T′ B′ trail′ text′ r
-    go a (Step.On p′) s = record { S = s .S′; n = s .n′; is = s .is; holding = s .come .holding }
-    go a (Step.Refused number place) s = s
+    go : {room : List ℕ} (a : RootAsked T B E w room trail text p budget) (r : Step)
+        → Settles (given a x (N .left .len)) (needC (a .t) 65 need (one a N .inner) [] 0) (begins need) T′ B′ trail′ text′ r → RootSettles a T′ B′ trail′ text′ r
+    go a (Step.On p′) s = record { S = s .S′; n = s .n′; is = N .is (layer a) .is 65 ∙ s .is; holding = s .come .holding }
+    go a (Step.Refused number place) s =
+        record { refusal = s .refusal; is = N .is (layer a) .is 65 ∙ s .is; its-number = s .its-number; its-place = s .its-place }
 
-pub ruleset roots = (root-node, root-is)
+pub ruleset roots = (root-layer, root-one, root-is)

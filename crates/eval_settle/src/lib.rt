@@ -1,35 +1,21 @@
 // The order: what the root's value needs is worked out, one unresolved value after another, as its layers are walked. Nothing is written but
 // the trail; when this is done, no answer that the root's value takes is missing.
 // Computes: theory_order's settling by levels
-use doc_items::CAPACITY;
-use doc_items::COLUMN_SIZE;
-use doc_items::PIECE;
-use doc_items::WIDTH;
-use doc_items::number_at;
-use eval_answers::Answered;
-use eval_members::Member;
-use eval_members::layer_of;
+use eval_need_laws::Need;
+use eval_need_laws::Span;
+use eval_needs::need_at;
+use eval_needs::need_of_layer;
 use eval_order::Progress;
 use eval_order::Step;
-use eval_ready::ANSWERS;
-use eval_ready::ready;
-use eval_settle_laws::Ready;
-use eval_sources::element_at;
-use eval_sources::members_from;
-use eval_stack::code_at;
-use eval_stack::link_at;
-use eval_stack::push;
 use eval_values::LEVELS;
 use eval_work::work;
-ghost use Rattle.eval_settle_laws.specs.Ready.{ReadyAsked};
-ghost use Rattle.eval_settle_laws.specs.Contracts.{NodeAsked, NodeIs, ObjectAsked, ObjectIs, MergedIs, KeysAsked, KeysIs, FieldIs};
-ghost use Rattle.eval_settle_laws.specs.Contracts.{ElementAsked, ElementIs, ElementsAsked, ElementsIs, RootAsked, RootIs};
+ghost use Rattle.eval_settle_laws.specs.Contracts.{OneAsked, OneIs, AllAsked, AllIs, RootAsked, RootIs};
 
 // The root is the first item.
 const ROOT: usize = 0;
 
-// A simple or a finished value needs nothing; an array or an object may.
-fn settle_node(
+// What one place needs: an answer is worked out, what is inside is settled one level lower. The stack is free from top on.
+fn settle_one(
     table: &mut [u16],
     bytes: &mut [u8],
     env: &[u8],
@@ -38,359 +24,20 @@ fn settle_node(
     trail: &mut [u8],
     text: &mut [u8],
     top: usize,
-    layer: usize,
+    need: Need,
     at: Progress,
     budget: usize,
     levels: usize,
 ) -> Step
-    requires { ⌜ NodeAsked (now table) (now bytes) (now env) (now stack) (now room) (now trail) (now text) top layer at budget ⌝ }
-    ensures { λ r. ⌜ NodeIs (now (env .entry)) top layer at budget levels
+    requires { ⌜ OneAsked (now table) (now bytes) (now env) (now stack) (now room) (now trail) (now text) top need at budget ⌝ }
+    ensures { λ r. ⌜ OneIs (now (env .entry)) top need at budget levels
         (now (table .entry)) (now (table .exit)) (now (bytes .entry)) (now (bytes .exit))
         (now (stack .entry)) (now (stack .exit))
         (now (trail .entry)) (now (trail .exit)) (now (text .entry)) (now (text .exit)) r ⌝ }
 {
-    if CAPACITY <= layer {
-        return Step::On(at);
-    }
-    if levels == 0 {
-        return Step::On(at);
-    }
-    let kind = number_at(table, WIDTH * layer) % PIECE;
-    if kind == doc_items::ARRAY {
-        return settle_elements(
-            table,
-            bytes,
-            env,
-            stack,
-            room,
-            trail,
-            text,
-            top,
-            layer,
-            at,
-            budget,
-            levels - 1,
-        );
-    }
-    if kind == doc_items::OBJECT {
-        let hi = push(stack, top, layer);
-        return settle_object(
-            table,
-            bytes,
-            env,
-            stack,
-            room,
-            trail,
-            text,
-            top,
-            hi,
-            at,
-            budget,
-            levels - 1,
-        );
-    }
-    Step::On(at)
-}
-
-// The keys of the objects from one entry to another, "in order of first appearance".
-fn settle_object(
-    table: &mut [u16],
-    bytes: &mut [u8],
-    env: &[u8],
-    stack: &mut [u16],
-    room: &mut [u8],
-    trail: &mut [u8],
-    text: &mut [u8],
-    lo: usize,
-    hi: usize,
-    at: Progress,
-    budget: usize,
-    levels: usize,
-) -> Step
-    requires { ⌜ ObjectAsked (now table) (now bytes) (now env) (now stack) (now room) (now trail) (now text) lo hi at budget ⌝ }
-    ensures { λ r. ⌜ ObjectIs (now (env .entry)) lo hi at budget levels
-        (now (table .entry)) (now (table .exit)) (now (bytes .entry)) (now (bytes .exit))
-        (now (stack .entry)) (now (stack .exit))
-        (now (trail .entry)) (now (trail .exit)) (now (text .entry)) (now (text .exit)) r ⌝ }
-{
-    let top = members_from(table, bytes, stack, ANSWERS, lo, hi);
-    settle_keys(
-        table,
-        bytes,
-        env,
-        stack,
-        room,
-        trail,
-        text,
-        hi,
-        top,
-        at,
-        budget,
-        levels,
-    )
-}
-
-// The keys of the members from base to top, which are grouped by key.
-fn settle_keys(
-    table: &mut [u16],
-    bytes: &mut [u8],
-    env: &[u8],
-    stack: &mut [u16],
-    room: &mut [u8],
-    trail: &mut [u8],
-    text: &mut [u8],
-    base: usize,
-    top: usize,
-    at: Progress,
-    budget: usize,
-    levels: usize,
-) -> Step
-    requires { ⌜ KeysAsked (now table) (now bytes) (now env) (now stack) (now room) (now trail) (now text) base top at budget ⌝ }
-    ensures { λ r. ⌜ KeysIs (now (env .entry)) base top at budget levels
-        (now (table .entry)) (now (table .exit)) (now (bytes .entry)) (now (bytes .exit))
-        (now (stack .entry)) (now (stack .exit))
-        (now (trail .entry)) (now (trail .exit)) (now (text .entry)) (now (text .exit)) r ⌝ }
-{
-    let mut p = base;
-    let mut state = at;
-    while p < top {
-        if link_at(stack, p) < p {
-            p += 1;
-        } else {
-            match settle_field(
-                table,
-                bytes,
-                env,
-                stack,
-                room,
-                trail,
-                text,
-                p,
-                top,
-                state,
-                budget,
-                levels,
-            ) {
-                Step::Refused { number, place } => {
-                    return Step::Refused { number, place };
-                }
-                Step::On(next) => {
-                    state = next;
-                    p += 1;
-                }
-            }
-        }
-    }
-    Step::On(state)
-}
-
-// The key whose first member stands at `first`.
-fn settle_field(
-    table: &mut [u16],
-    bytes: &mut [u8],
-    env: &[u8],
-    stack: &mut [u16],
-    room: &mut [u8],
-    trail: &mut [u8],
-    text: &mut [u8],
-    first: usize,
-    top: usize,
-    at: Progress,
-    budget: usize,
-    levels: usize,
-) -> Step
-    requires { ⌜ ReadyAsked (now table) (now bytes) (now env) (now stack) (now room) (now trail) (now text) first top at budget ⌝ }
-    ensures { λ r. ⌜ FieldIs (now (env .entry)) first top at budget levels
-        (now (table .entry)) (now (table .exit)) (now (bytes .entry)) (now (bytes .exit))
-        (now (stack .entry)) (now (stack .exit))
-        (now (trail .entry)) (now (trail .exit)) (now (text .entry)) (now (text .exit)) r ⌝ }
-{
-    match ready(
-        table,
-        bytes,
-        env,
-        stack,
-        room,
-        trail,
-        text,
-        first,
-        top,
-        at,
-        budget,
-    ) {
-        Ready::Refused { number, place } => Step::Refused { number, place },
-        Ready::Nothing(next) => Step::On(next),
-        Ready::One { layer, at: next } => settle_node(
-            table,
-            bytes,
-            env,
-            stack,
-            room,
-            trail,
-            text,
-            top,
-            layer,
-            next,
-            budget,
-            levels,
-        ),
-        Ready::Merged { hi, at: next } => settle_merged(
-            table,
-            bytes,
-            env,
-            stack,
-            room,
-            trail,
-            text,
-            top,
-            hi,
-            next,
-            budget,
-            levels,
-        ),
-    }
-}
-
-// The objects from one entry to another that a key comes to. One that stands alone is a layer; several go one level down.
-fn settle_merged(
-    table: &mut [u16],
-    bytes: &mut [u8],
-    env: &[u8],
-    stack: &mut [u16],
-    room: &mut [u8],
-    trail: &mut [u8],
-    text: &mut [u8],
-    lo: usize,
-    hi: usize,
-    at: Progress,
-    budget: usize,
-    levels: usize,
-) -> Step
-    requires { ⌜ ObjectAsked (now table) (now bytes) (now env) (now stack) (now room) (now trail) (now text) lo hi at budget ⌝ }
-    ensures { λ r. ⌜ MergedIs (now (env .entry)) lo hi at budget levels
-        (now (table .entry)) (now (table .exit)) (now (bytes .entry)) (now (bytes .exit))
-        (now (stack .entry)) (now (stack .exit))
-        (now (trail .entry)) (now (trail .exit)) (now (text .entry)) (now (text .exit)) r ⌝ }
-{
-    if hi == lo + 1 {
-        let layer = code_at(stack, lo);
-        return settle_node(
-            table,
-            bytes,
-            env,
-            stack,
-            room,
-            trail,
-            text,
-            lo,
-            layer,
-            at,
-            budget,
-            levels,
-        );
-    }
-    if levels == 0 {
-        return Step::On(at);
-    }
-    settle_object(
-        table,
-        bytes,
-        env,
-        stack,
-        room,
-        trail,
-        text,
-        lo,
-        hi,
-        at,
-        budget,
-        levels - 1,
-    )
-}
-
-// The elements of an array of the document, one behind the other.
-fn settle_elements(
-    table: &mut [u16],
-    bytes: &mut [u8],
-    env: &[u8],
-    stack: &mut [u16],
-    room: &mut [u8],
-    trail: &mut [u8],
-    text: &mut [u8],
-    top: usize,
-    item: usize,
-    at: Progress,
-    budget: usize,
-    levels: usize,
-) -> Step
-    requires { ⌜ ElementsAsked (now table) (now bytes) (now env) (now stack) (now room) (now trail) (now text) top item at budget ⌝ }
-    ensures { λ r. ⌜ ElementsIs (now (env .entry)) top item at budget levels
-        (now (table .entry)) (now (table .exit)) (now (bytes .entry)) (now (bytes .exit))
-        (now (stack .entry)) (now (stack .exit))
-        (now (trail .entry)) (now (trail .exit)) (now (text .entry)) (now (text .exit)) r ⌝ }
-{
-    let end = item + number_at(table, WIDTH * item + COLUMN_SIZE);
-    let mut p = item + 1;
-    let mut state = at;
-    loop {
-        match element_at(table, bytes, ANSWERS, p, end) {
-            Member::End => {
-                return Step::On(state);
-            }
-            Member::Seam(next) => {
-                p = next;
-            }
-            Member::At { layer, next } => {
-                match settle_element(
-                    table,
-                    bytes,
-                    env,
-                    stack,
-                    room,
-                    trail,
-                    text,
-                    top,
-                    layer,
-                    state,
-                    budget,
-                    levels,
-                ) {
-                    Step::Refused { number, place } => {
-                        return Step::Refused { number, place };
-                    }
-                    Step::On(on) => {
-                        state = on;
-                        p = next;
-                    }
-                }
-            }
-        }
-    }
-}
-
-// An element: an unresolved value is worked out where it has no answer, any other is a layer.
-fn settle_element(
-    table: &mut [u16],
-    bytes: &mut [u8],
-    env: &[u8],
-    stack: &mut [u16],
-    room: &mut [u8],
-    trail: &mut [u8],
-    text: &mut [u8],
-    top: usize,
-    item: usize,
-    at: Progress,
-    budget: usize,
-    levels: usize,
-) -> Step
-    requires { ⌜ ElementAsked (now table) (now bytes) (now env) (now stack) (now room) (now trail) (now text) top item at budget ⌝ }
-    ensures { λ r. ⌜ ElementIs (now (env .entry)) top item at budget levels
-        (now (table .entry)) (now (table .exit)) (now (bytes .entry)) (now (bytes .exit))
-        (now (stack .entry)) (now (stack .exit))
-        (now (trail .entry)) (now (trail .exit)) (now (text .entry)) (now (text .exit)) r ⌝ }
-{
-    match layer_of(table, item) {
-        Answered::Missing(b) => work(
+    match need {
+        Need::Nothing => Step::On(at),
+        Need::Answer(b) => work(
             table,
             bytes,
             env,
@@ -403,8 +50,55 @@ fn settle_element(
             at,
             budget,
         ),
-        Answered::Undefined => Step::On(at),
-        Answered::Layer(layer) => settle_node(
+        Need::Inside(span) => {
+            if levels == 0 {
+                return Step::On(at);
+            }
+            settle_all(
+                table,
+                bytes,
+                env,
+                stack,
+                room,
+                trail,
+                text,
+                span,
+                at,
+                budget,
+                levels - 1,
+            )
+        }
+    }
+}
+
+// What all places of a span need, in turn. A key whose answer was missing is met again.
+fn settle_all(
+    table: &mut [u16],
+    bytes: &mut [u8],
+    env: &[u8],
+    stack: &mut [u16],
+    room: &mut [u8],
+    trail: &mut [u8],
+    text: &mut [u8],
+    span: Span,
+    at: Progress,
+    budget: usize,
+    levels: usize,
+) -> Step
+    requires { ⌜ AllAsked (now table) (now bytes) (now env) (now stack) (now room) (now trail) (now text) span at budget ⌝ }
+    ensures { λ r. ⌜ AllIs (now (env .entry)) span at budget levels
+        (now (table .entry)) (now (table .exit)) (now (bytes .entry)) (now (bytes .exit))
+        (now (stack .entry)) (now (stack .exit))
+        (now (trail .entry)) (now (trail .exit)) (now (text .entry)) (now (text .exit)) r ⌝ }
+{
+    let mut p = span.from;
+    let end = span.end;
+    let top = span.top;
+    let mut state = at;
+    while p < end {
+        let met = need_at(table, bytes, stack, span, p);
+        let need = met.need;
+        match settle_one(
             table,
             bytes,
             env,
@@ -413,12 +107,21 @@ fn settle_element(
             trail,
             text,
             top,
-            layer,
-            at,
+            need,
+            state,
             budget,
             levels,
-        ),
+        ) {
+            Step::Refused { number, place } => {
+                return Step::Refused { number, place };
+            }
+            Step::On(on) => {
+                state = on;
+                p = met.next;
+            }
+        }
     }
+    Step::On(state)
 }
 
 /// All that the root's value needs, in its order.
@@ -438,7 +141,8 @@ pub fn settle_root(
         (now (table .entry)) (now (table .exit)) (now (bytes .entry)) (now (bytes .exit)) (now (stack .entry))
         (now (trail .entry)) (now (trail .exit)) (now (text .entry)) (now (text .exit)) r ⌝ }
 {
-    settle_node(
+    let need = need_of_layer(table, bytes, stack, 0, ROOT);
+    settle_one(
         table,
         bytes,
         env,
@@ -447,7 +151,7 @@ pub fn settle_root(
         trail,
         text,
         0,
-        ROOT,
+        need,
         at,
         budget,
         LEVELS,

@@ -1,9 +1,3 @@
-pub mod Ready
+pub mod Given
 pub mod Contracts
-pub mod Rooms
-pub mod Readying
-pub mod Nodes
-pub mod Elements
-pub mod Listing
-pub mod Fields
-pub mod Keys
+pub mod Settling

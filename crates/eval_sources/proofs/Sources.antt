@@ -13,7 +13,7 @@ use Rattle.eval_stack.specs.Contracts.{CodeIs}
 use Rattle.eval_groups.specs.Contracts.{MembersIs}
 use Rattle.eval_layers.specs.declared.Taken.{Taken}
 use Rattle.eval_taken.specs.Contracts.{TakeIs}
-use Rattle.eval_sources.specs.Contracts.{recordsOf}
+use Rattle.eval_records.specs.Sources.{recordsOf}
 
 abbrev lent : List ℕ → Source → List ℕ
 lent B src = take (src .rec .0 + maxRoom - src .rec .0) (drop (src .rec .0) B)

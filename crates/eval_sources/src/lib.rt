@@ -15,7 +15,7 @@ ghost use Rattle.eval_members.specs.Contracts.{KeyIs, MemberIs};
 ghost use Rattle.eval_stack.specs.Model.{entries, Work, codeAt};
 ghost use Rattle.eval_groups.specs.Contracts.{MembersIs};
 ghost use Rattle.eval_taken.specs.Contracts.{TakeIs};
-ghost use Rattle.eval_sources.specs.Contracts.{SourceIn, recordsOf};
+ghost use Rattle.eval_records.specs.Sources.{SourceIn, recordsOf};
 
 /// The key number of the member at an entry of the stack.
 pub fn entry_key(table: &[u16], bytes: &[u8], work: &[u16], src: Source, p: usize) -> usize

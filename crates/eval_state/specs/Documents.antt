@@ -14,7 +14,7 @@ use Rattle.rules.specs.Tree.{Node, unresolved, Fields, Root, fields, elements, 
 use Rattle.rules.specs.Unresolved.{Unresolved}
 use Rattle.rules.specs.Documents.{Setting}
 use Rattle.theory.specs.Numbering.{Prepared, numbers-below, all-node, all-pieces}
-use Rattle.theory.specs.Choices.{getElem-length}
+use Rattle.theory_text.specs.Choices.{getElem-length}
 use Rattle.theory.specs.Reach.{Each, InRange, each-at}
 use Rattle.theory.specs.Rules.{Listed, all-listed, top}
 use Rattle.text_chars.specs.Parts.{part-slice}

@@ -17,11 +17,12 @@ use Rattle.eval_sizes.specs.declared.Answered.{Answered}
 use Rattle.eval_join_steps.specs.Contracts.{Good, RefusedWith}
 use Rattle.eval_join_steps.specs.declared.JoinStep.{JoinStep}
 use Rattle.eval_questions.specs.Contracts.{Questioned}
-use Rattle.eval_unresolved.specs.Outcomes.{OutcomeOfIs, outcome-within, outcome-is}
+use Rattle.eval_sizes.specs.Outcomes.{OutcomeOfIs, outcome-within}
+use Rattle.eval_unresolved.specs.Outcomes.{outcome-is}
 use Rattle.eval_unresolved.specs.Parts.{OutcomeFor}
 use Rattle.eval_pieces_joined.specs.Contracts.{severalBy, AllJoined, PiecesJoinedIs}
 use Rattle.eval_questions.specs.Rules.{OnePiece, several-rule, rule-is, rule-distinct}
-use Rattle.eval_unresolved.specs.declared.Outcome.{Outcome}
+use Rattle.eval_sizes.specs.declared.Outcome.{Outcome}
 
 -- ---- the outcome
 

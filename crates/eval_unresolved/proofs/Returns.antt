@@ -1,4 +1,4 @@
--- A law for each place where a function returns, and for what is lent on: one piece, and the end.
+-- A law for each place where a function returns, and for what is lent on: one piece, and either.
 use mathlib.Core.Path.{_≡_, refl, sym, _∙_}
 use Prim.Native.Nat.{ℕ, _+_}
 use mathlib.Core.Bool.{Bool, true, false}
@@ -8,8 +8,10 @@ use lib.ListN.{length}
 use Rattle.text_chars.specs.declared.DocAt.{DocAt}
 use Rattle.eval_extents.specs.declared.Extent.{Extent}
 use Rattle.eval_taken.specs.Levels.{same-below}
-use Rattle.eval_sizes.specs.Contracts.{withinC, sizedC}
+use Rattle.eval_sizes.specs.Contracts.{sizedC}
+use Rattle.eval_sizes.specs.Outcomes.{OutcomeOfIs, outcome-within}
 use Rattle.eval_sizes.specs.declared.Answered.{Answered}
+use Rattle.eval_sizes.specs.declared.Outcome.{Outcome}
 use Rattle.eval_value_laws.specs.Contracts.{Left}
 use Rattle.eval_value_laws.specs.Frames.{left-then}
 use Rattle.eval_pieces.specs.Contracts.{Lent, PieceIs}
@@ -19,33 +21,9 @@ use Rattle.eval_piece_values.specs.Contracts.{PieceAsked, PieceValueIs}
 use Rattle.eval_piece_values.specs.declared.PieceValue.{PieceValue}
 use Rattle.eval_questions.specs.Contracts.{Asked}
 use Rattle.eval_unresolved.specs.Contracts.{OutcomeIs}
-use Rattle.eval_unresolved.specs.Outcomes.{outcomeC, OutcomeOfIs, outcome-within}
 use Rattle.eval_unresolved.specs.Parts.{OutcomeFor, SoleAsked}
 use Rattle.eval_questions.specs.Rules.{OnePiece}
 use Rattle.eval_unresolved.specs.Sole.{sole-yes, sole-no, sole-done, sole-undefined, sole-needs, sole-missing}
-use Rattle.eval_unresolved.specs.declared.Outcome.{Outcome}
-
--- ---- the end
-
-module _ {q : Answered} where
-  pub outcome-done : {e : Extent} {f : Bool} → q ≡ Answered.Value e → f ≡ withinC e → f ≡ true → OutcomeOfIs q (Outcome.Done e)
-  unfolding outcomeC
-  outcome-done p h t = record { is = rw (p, outcomeC, sym h ∙ t) }
-
-  pub outcome-over : {e : Extent} {f : Bool} {r : Outcome} → q ≡ Answered.Value e → f ≡ withinC e → f ≡ false
-      → r ≡ Outcome.Refused 13 (record { 0 = 0 }) → OutcomeOfIs q r
-  unfolding outcomeC
-  outcome-over p h t z = record { is = rw (p, outcomeC, sym h ∙ t) z }
-
-  pub outcome-undefined : q ≡ Answered.Undefined → OutcomeOfIs q Outcome.Undefined
-  unfolding outcomeC
-  outcome-undefined p = record { is = rw (p, outcomeC) }
-
-  pub outcome-large : {r : Outcome} → q ≡ Answered.TooLarge → r ≡ Outcome.Refused 13 (record { 0 = 0 }) → OutcomeOfIs q r
-  unfolding outcomeC
-  outcome-large p z = record { is = rw (p, outcomeC) z }
-
-pub ruleset outcome-laws = (outcome-done, outcome-over, outcome-undefined, outcome-large)
 
 -- ---- one piece
 

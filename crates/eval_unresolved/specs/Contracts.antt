@@ -1,13 +1,12 @@
 -- What working one unresolved value out promises.
 use mathlib.Core.Path.{_≡_}
-use Prim.Native.Nat.{ℕ, _≤_, _<_}
+use Prim.Native.Nat.{ℕ, _<_}
 use mathlib.Core.Bool.{true}
 use mathlib.Core.List.{List}
 use mathlib.Core.Option.{none, some}
 use lib.ListN.{length, getD}
 use Rattle.answers.specs.Ask.{Trail, lookup, run, value, missing}
 use Rattle.rules.specs.Bytes.{Text}
-use Rattle.rules.specs.Sizes.{maxRecords, maxText}
 use Rattle.rules.specs.Values.{Answer, withinSize}
 use Rattle.rules.specs.Settled.{Given}
 use Rattle.rules.specs.Unresolved.{Unresolved}
@@ -16,12 +15,13 @@ use Rattle.doc_items.specs.Room.{bytesRoom}
 use Rattle.sheet_kept.specs.Kept.{Held, named}
 use Rattle.eval_writer.specs.Contracts.{Room}
 use Rattle.eval_extents.specs.declared.Extent.{Extent}
+use Rattle.eval_sizes.specs.Outcomes.{OutcomeWithin}
+use Rattle.eval_sizes.specs.declared.Outcome.{Outcome}
 use Rattle.eval_state.specs.State.{State}
 use Rattle.eval_state.specs.Contracts.{Finished}
 use Rattle.eval_value_laws.specs.Contracts.{Left}
 use Rattle.eval_join_steps.specs.Contracts.{RefusedWith}
 pub use Rattle.eval_questions.specs.Contracts.{Asked, PiecesFit, Fits, Questioned}
-use Rattle.eval_unresolved.specs.declared.Outcome.{Outcome}
 
 -- ---- what is promised
 
@@ -37,13 +37,6 @@ OutcomeCase key items T room g (Outcome.Done e) = ValueDone key items T room g e
 OutcomeCase key items T room g Outcome.Undefined = g ≡ value none
 OutcomeCase key items T room g (Outcome.Needs d) = g ≡ missing d
 OutcomeCase key items T room g (Outcome.Refused number place) = RefusedWith g number (place .0)
-
--- whatever the tables hold, a value that is done lies in the room
-abbrev pub OutcomeWithin : Outcome → Type 0
-OutcomeWithin (Outcome.Done e) = (e .out .rec .0 ≤ maxRecords) × (e .out .text .0 ≤ maxText)
-OutcomeWithin Outcome.Undefined = Unit {0}
-OutcomeWithin (Outcome.Needs d) = Unit {0}
-OutcomeWithin (Outcome.Refused number place) = Unit {0}
 
 -- The stack below base stays, and so does all that stands between two steps: of the bytes only those of the two objects that merge change,
 -- and the room keeps its length.

@@ -1,7 +1,7 @@
 -- What the rules' answer is as an outcome: a value in the room that may be kept, undefined, or over its size.
 use mathlib.Core.Path.{_≡_, refl, sym, ap, subst, _∙_}
 use Prim.Native.Nat.{ℕ}
-use mathlib.Core.Bool.{Bool, true, false, cond}
+use mathlib.Core.Bool.{true}
 use mathlib.Core.List.{List}
 use mathlib.Core.Option.{some}
 use native.Mathlib.Omega.{arith}
@@ -13,37 +13,12 @@ use Rattle.rules.specs.NamedValues.{Distinct}
 use Rattle.rules.specs.Settled.{Given}
 use Rattle.eval_extents.specs.declared.Extent.{Extent}
 use Rattle.eval_sizes.specs.Contracts.{withinC}
-use Rattle.eval_sizes.specs.Answers.{ValueIn, AnswerCase, AnsweredIs, within-nesting, within-records, within-texts, value-within, value-stands}
+use Rattle.eval_sizes.specs.Answers.{ValueIn, AnswerCase, AnsweredIs, within-nesting, value-within, value-stands}
+use Rattle.eval_sizes.specs.Outcomes.{outcomeC, OutcomeOfIs}
 use Rattle.eval_sizes.specs.declared.Answered.{Answered}
+use Rattle.eval_sizes.specs.declared.Outcome.{Outcome}
 use Rattle.eval_join_steps.specs.Contracts.{Good}
-use Rattle.eval_unresolved.specs.Contracts.{ValueDone, OutcomeCase, OutcomeWithin}
-use Rattle.eval_unresolved.specs.declared.Outcome.{Outcome}
-
-abbrev tooLarge : Outcome
-tooLarge = Outcome.Refused 13 (record { 0 = 0 })
-
--- whatever the tables hold, a value is tested
-unfoldable pub outcomeC : Answered → Outcome
-unfolding withinC
-outcomeC (Answered.Value e) = cond (withinC e) (Outcome.Done e) tooLarge
-outcomeC Answered.Undefined = Outcome.Undefined
-outcomeC Answered.TooLarge = tooLarge
-
-pub record OutcomeOfIs (q : Answered) (r : Outcome) : Type 0 where
-  pub is : r ≡ outcomeC q
-
-pub outcome-within : {r : Outcome} (q : Answered) → OutcomeOfIs q r → OutcomeWithin r
-unfolding outcomeC
-outcome-within {r} q h = rw (h .is) (all q)
-  where
-    all : (q : Answered) → OutcomeWithin (outcomeC q)
-    all (Answered.Value e) = go (withinC e) refl
-      where
-        go : (t : Bool) → withinC e ≡ t → OutcomeWithin (cond t (Outcome.Done e) tooLarge)
-        go true w = (within-records e w, within-texts e w)
-        go false w = tt
-    all Answered.Undefined = tt
-    all Answered.TooLarge = tt
+use Rattle.eval_unresolved.specs.Contracts.{ValueDone, OutcomeCase}
 
 module _ {key : ℕ → Text} (items : ℕ) {T room : List ℕ} where
   value-done : {g : Given Answer} {e : Extent} {v : Value} → g ≡ value (some v) → Distinct v → ValueIn key (Good T items) room e v → withinC e ≡ true

@@ -14,8 +14,9 @@ use Rattle.eval_writer.specs.Contracts.{Room}
 use Rattle.eval_state.specs.State.{State}
 use Rattle.eval_value_laws.specs.Contracts.{Left}
 use Rattle.eval_questions.specs.Contracts.{Asked, Questioned}
-use Rattle.eval_unresolved.specs.Contracts.{OutcomeCase, OutcomeWithin}
-use Rattle.eval_unresolved.specs.declared.Outcome.{Outcome}
+use Rattle.eval_sizes.specs.Outcomes.{OutcomeWithin}
+use Rattle.eval_sizes.specs.declared.Outcome.{Outcome}
+use Rattle.eval_unresolved.specs.Contracts.{OutcomeCase}
 
 -- ---- the outcome, where the pieces are such
 

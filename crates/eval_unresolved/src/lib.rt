@@ -1,7 +1,6 @@
 // What an unresolved value comes to against the answers so far: "One piece keeps its type"; several are joined, "pieces left to right".
 // Computes: Unresolved (answerOf)
 use codes::refusals;
-use eval_extents::Extent;
 use eval_join_steps::JoinStep;
 use eval_joins::join_answer;
 use eval_piece_items::is_sole;
@@ -9,56 +8,13 @@ use eval_piece_values::PieceValue;
 use eval_piece_values::value_of;
 use eval_pieces::piece_of;
 use eval_pieces_joined::join_pieces;
-use eval_sizes::Answered;
-use eval_sizes::is_within;
+use eval_sizes::Outcome;
+use eval_sizes::outcome_of;
 use eval_sizes::sized;
-use text_chars::DocAt;
-ghost use mathlib.Core.Path.{_≡_};
 ghost use Rattle.eval_questions.specs.Contracts.{Asked};
 ghost use Rattle.eval_questions.specs.Rules.{OnePiece};
 ghost use Rattle.eval_unresolved.specs.Contracts.{OutcomeIs};
-ghost use Rattle.eval_unresolved.specs.Outcomes.{OutcomeOfIs};
-ghost use Rattle.eval_unresolved.specs.declared.Outcome.{Outcome};
 ghost use Rattle.eval_unresolved.specs.Parts.{SoleAsked, OutcomeFor};
-
-/// What an unresolved value comes to.
-pub enum Outcome {
-    // its value is in the room, so far and so deep
-    Done(Extent),
-    // it is undefined
-    Undefined,
-    // the answer of this question is needed first
-    Needs(usize),
-    // a refusal; place 0 where it has none
-    Refused { number: u8, place: DocAt },
-}
-
-// ---- the end
-
-fn too_large() -> Outcome
-    ensures { λ r. ⌜ r ≡ Outcome.Refused 13 (record { 0 = 0 }) ⌝ }
-{
-    Outcome::Refused {
-        number: refusals::TOO_LARGE,
-        place: DocAt(0),
-    }
-}
-
-// Where all that is needed is known. A value is tested, whatever the tables hold.
-fn outcome_of(answered: Answered) -> Outcome
-    ensures { λ r. ⌜ OutcomeOfIs answered r ⌝ }
-{
-    match answered {
-        Answered::Value(e) => {
-            if is_within(e) {
-                return Outcome::Done(e);
-            }
-            too_large()
-        }
-        Answered::Undefined => Outcome::Undefined,
-        Answered::TooLarge => too_large(),
-    }
-}
 
 // ---- one piece
 

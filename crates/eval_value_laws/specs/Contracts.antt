@@ -1,39 +1,41 @@
 -- What the values' functions promise: for any tables how far they count and what of the stack they leave as it is; and where the tables show
 -- layers, and there is room on the stack, what the rules give for them.
 use mathlib.Core.Path.{_≡_}
-use Prim.Native.Nat.{ℕ, suc, pred, _+_, _*_, _≤_, _<_}
-use mathlib.Core.List.{List}
-use mathlib.Core.Option.{Option, some}
+use Prim.Native.Nat.{ℕ, suc, pred, _+_, _*_, _-_, _≤_, _<_}
+use mathlib.Core.List.{List, [], _∷_}
+use mathlib.Core.Option.{Option, none, some}
 use lib.ListN.{length, getD}
 use Rattle.answers.specs.Ask.{value, missing, then}
 use Rattle.rules.specs.Sizes.{maxRoom}
-use Rattle.rules.specs.Tree.{Node, simple, array, object, unresolved, Elements, heightOf, highestElement}
-use Rattle.rules.specs.Values.{Members, Answer}
+use Rattle.rules.specs.Tree.{Scalar, Node, simple, array, object, unresolved, Elements, Fields, heightOf, highestElement}
+use Rattle.rules.specs.Values.{Value, scalar, Members, Answer}
 use Rattle.rules.specs.Layers.{Layer, written, settled, Counted, nothing, one, merged, keysInOrder, madeMember}
-use Rattle.rules.specs.Settled.{Given, pushAll, deeperOf, membersIn, mergedIn, nodeIn, elementsIn, layerIn, countedIn, valueIn}
+use Rattle.rules.specs.Settled.{Given, pushAll, membersIn, mergedIn, nodeIn, elementsIn, layerIn, countedIn, valueIn}
 use Rattle.rules.specs.Weights.{weightOf, weightOfElements, weightOfFields}
 use Rattle.theory.specs.Depths.{layerHeight, heightIn, Shallow}
+use Rattle.doc_items.specs.Room.{capacity}
 use Rattle.eval_writer.specs.Contracts.{Room}
 use Rattle.eval_writer.specs.declared.Out.{Out}
 use Rattle.eval_writer.specs.declared.Source.{Source}
 use Rattle.eval_records.specs.Contracts.{mostBytes}
 use Rattle.eval_extents.specs.Contracts.{NotPast}
-use Rattle.eval_extents.specs.declared.Extent.{Extent}
-use Rattle.eval_stack.specs.Model.{entries, Work, codeAt, linkAt}
-use Rattle.eval_members.specs.Model.{keyAt}
-use Rattle.eval_writer.specs.Keys.{KeyIn}
+use Rattle.eval_answers.specs.declared.Answered.{Answered}
+use Rattle.eval_stack.specs.Model.{entries, Work}
+use Rattle.eval_members.specs.Model.{answeredAt}
 use Rattle.eval_tables.specs.Keys.{KeyNumber}
-use Rattle.eval_tables.specs.Finished.{Memory}
+use Rattle.eval_tables.specs.Finished.{Memory, Stored, SettledAt}
 use Rattle.eval_tables.specs.Tables.{WrittenAt, Tables, Shows}
 use Rattle.eval_groups.specs.Contracts.{Below}
 use Rattle.eval_groups.specs.Room.{Roomy}
 use Rattle.eval_layers.specs.declared.Taken.{Taken}
-use Rattle.eval_taken.specs.Levels.{ObjectsAt, Level}
-use Rattle.eval_sources.specs.Contracts.{recordsOf}
+use Rattle.eval_taken.specs.Levels.{ObjectsAt, Level, keysFrom}
+use Rattle.eval_leaves.specs.Contracts.{HoldsSimple, KeyBeforeIs}
 use Rattle.eval_worked.specs.Contracts.{WorkedWithin, MadeWithin}
-use Rattle.eval_worked.specs.Steps.{FieldsSoFar}
 use Rattle.eval_worked.specs.declared.Worked.{Worked}
 use Rattle.eval_worked.specs.declared.Made.{Made}
+use Rattle.eval_value_laws.specs.declared.Origin.{Origin}
+use Rattle.eval_value_laws.specs.declared.Begun.{Begun}
+use Rattle.eval_value_laws.specs.declared.Field.{Field}
 use Rattle.eval_value_laws.specs.Ground.{Names, memoryOf, ValueComes, ElementsMade, FieldsMade}
 use Rattle.eval_value_laws.specs.Counting.{LayerDeep}
 use Rattle.eval_value_laws.specs.Elements.{ElementsShown}
@@ -122,23 +124,10 @@ abbrev pub mergedBy : (ℕ → Option Answer) → ℕ → List Layer → Given A
 unfolding mergedIn
 mergedBy known d os = then (mergedIn known (valueIn known d) os) (λ v. value (some v))
 
-pub record MergedIs (T B : List ℕ) (src : Source) (lo hi : ℕ) (o : Out) (levels : ℕ) (w w′ : List ℕ) (r : Worked) (b a : List ℕ) : Type 0 where
-  pub left : Left hi w w′
-  pub within : WorkedWithin r
-  pub is : (N : Names) (known : ℕ → Option Answer) (d : ℕ) (os : List Layer) → ObjectsGiven (memoryOf T B src N) known w lo hi levels d os
-      → ValueComes (memoryOf T B src N) (mergedBy known d os) o r b a
-
 pub record ObjectIs (T B : List ℕ) (src : Source) (lo hi : ℕ) (o : Out) (levels : ℕ) (w w′ : List ℕ) (r : Worked) (b a : List ℕ) : Type 0 where
   pub left : Left hi w w′
   pub within : WorkedWithin r
   pub is : (N : Names) (known : ℕ → Option Answer) (d : ℕ) (os : List Layer) → ObjectsGiven (memoryOf T B src N) known w lo hi (suc levels) d os
-      → ValueComes (memoryOf T B src N) (mergedBy known d os) o r b a
-
--- of the members of objects
-pub record MembersValueIs (T B : List ℕ) (src : Source) (base top : ℕ) (o : Out) (levels : ℕ) (w w′ : List ℕ) (r : Worked) (b a : List ℕ) : Type 0 where
-  pub left : Left top w w′
-  pub within : WorkedWithin r
-  pub is : (N : Names) (known : ℕ → Option Answer) (d : ℕ) (os : List Layer) → MembersGiven (memoryOf T B src N) known w base top levels d os
       → ValueComes (memoryOf T B src N) (mergedBy known d os) o r b a
 
 -- objects that were taken stand from top on
@@ -175,49 +164,115 @@ pub record FieldsIs (T B : List ℕ) (src : Source) (base top : ℕ) (o : Out) (
   pub is : (N : Names) (known : ℕ → Option Answer) (d : ℕ) (os : List Layer) → MembersGiven (memoryOf T B src N) known w base top levels d os
       → FieldsMade (memoryOf T B src N) (membersIn known (valueIn known d) (pushAll known os) (keysInOrder os)) o r b a
 
--- one key's value, behind those before it: whatever they are, and whatever is still to come
-pub record FieldDone (M : Memory) (k : ℕ) (v : Given Answer) (count : ℕ) (e : Extent) (x : List ℕ) (m : ℕ) (f : Extent) (a : List ℕ) : Type 0 where
-  pub is : {o : Out} {b : List ℕ} {g all : Given Members} (rest : Given Members) → all ≡ then v (λ u. then rest (λ ms. value (madeMember (M .key k) u ms)))
-      → FieldsSoFar (M .key) (KeyNumber (M .table) (M .items)) g all o count e b x
-      → FieldsSoFar (M .key) (KeyNumber (M .table) (M .items)) g rest o m f b a
-
-abbrev pub FieldBy : Memory → ℕ → Given Answer → ℕ → Extent → List ℕ → List ℕ → Made → Type 0
-FieldBy M k v count e x a (Made.Needs n) = v ≡ missing n
-FieldBy M k v count e x a (Made.Done m f) = FieldDone M k v count e x m f a
-
+-- at most one member more
 abbrev pub OneMore : ℕ → Made → Type 0
 OneMore count (Made.Needs n) = Unit {0}
 OneMore count (Made.Done m e) = m ≤ count + 1
 
-pub record FieldIs (T B : List ℕ) (src : Source) (p top count : ℕ) (e : Extent) (levels : ℕ) (w w′ : List ℕ) (r : Made) (x a : List ℕ) : Type 0 where
-  pub left : Left top w w′
-  pub within : MadeWithin r
-  pub more : OneMore count r
-  pub is : (N : Names) (known : ℕ → Option Answer) (d base : ℕ) (os : List Layer) → MembersGiven (memoryOf T B src N) known w base top levels d os
-      → base ≤ p → p ≤ linkAt w p
-      → let k = keyAt T (recordsOf B src) (codeAt w p) in
-      FieldBy (memoryOf T B src N) k (valueIn known d (deeperOf known (N .key k) (pushAll known os))) count e x a r
+-- ---- what a value is written from
 
--- the same of what the key's layers came to
-abbrev pub Something : Taken → Type 0
-Something Taken.Nothing = ⊥
-Something (Taken.Needs n) = ⊥
-Something (Taken.One c) = Unit {0}
-Something (Taken.Merged hi) = Unit {0}
+-- what the code has to keep to
+abbrev pub OriginFits : ℕ → ℕ → Origin → Type 0
+OriginFits top levels Origin.Nothing = Unit {0}
+OriginFits top levels (Origin.Needs n) = Unit {0}
+OriginFits top levels (Origin.Finished at) = Unit {0}
+OriginFits top levels (Origin.Simple c) = c < capacity
+OriginFits top levels (Origin.Array c) = (1 ≤ levels) × (c < capacity)
+OriginFits top levels (Origin.Object c) = (1 ≤ levels) × (c < capacity)
+OriginFits top levels (Origin.Objects hi) = (1 ≤ levels) × (top ≤ hi) × (hi ≤ entries)
 
-pub record KeyedIs (T B : List ℕ) (src : Source) (top k : ℕ) (taken : Taken) (count : ℕ) (e : Extent) (levels : ℕ) (w w′ : List ℕ) (r : Made) (x a : List ℕ) : Type 0 where
-  pub left : Left top w w′
-  pub within : MadeWithin r
-  pub more : OneMore count r
+-- the value x by the rules
+abbrev pub OriginBy : Memory → (ℕ → Option Answer) → List ℕ → ℕ → ℕ → ℕ → Given Answer → Origin → Type 0
+OriginBy M known w top levels d x Origin.Nothing = x ≡ value none
+OriginBy M known w top levels d x (Origin.Needs n) = x ≡ missing n
+OriginBy M known w top levels d x (Origin.Finished at) = (v : Value) × (x ≡ value (some v)) × Stored M × SettledAt M v at
+OriginBy M known w top levels d x (Origin.Simple c) = (s : Scalar) × (x ≡ value (some (scalar s))) × HoldsSimple (M .table) (M .bytes) c s
+OriginBy M known w top levels d x (Origin.Array c) =
+    (es : Elements) × (x ≡ nodeIn known (valueIn known d) (array es)) × ElementsGiven M known top (levels - 1) d (c + 1) (c + getD (M .table) (8 * c + 1) 0) es
+OriginBy M known w top levels d x (Origin.Object c) =
+    (fs : Fields) × (x ≡ mergedBy known (pred d) (written (object fs) ∷ [])) × LayerGiven M known top levels d c (written (object fs))
+OriginBy M known w top levels d x (Origin.Objects hi) = (os : List Layer) × (x ≡ mergedBy known d os) × ObjectsGiven M known w top hi levels d os
+
+pub record OriginIs (T w : List ℕ) (top : ℕ) (taken : Taken) (levels : ℕ) (r : Origin) : Type 0 where
+  pub fits : OriginFits top levels r
+  pub is : (B : List ℕ) (src : Source) (N : Names) (known : ℕ → Option Answer) (d : ℕ) (g : Given Counted)
+      → TakenGiven (memoryOf T B src N) known w top levels d g taken → OriginBy (memoryOf T B src N) known w top levels d (countedBy known d g) r
+
+-- ---- how a value begins
+
+-- with the elements of the array c
+pub record ElementsBegun (T B : List ℕ) (src : Source) (top : ℕ) (taken : Taken) (levels : ℕ) (w : List ℕ) (c : ℕ) (b a : List ℕ) : Type 0 where
+  pub deeper : 1 ≤ levels
+  pub item : c < capacity
+  pub kept : a ≡ b
   pub is : (N : Names) (known : ℕ → Option Answer) (d : ℕ) (g : Given Counted) → TakenGiven (memoryOf T B src N) known w top levels d g taken
-      → Something taken → KeyNumber T (N .items) k → KeyIn (N .key) T B k → FieldBy (memoryOf T B src N) k (countedBy known d g) count e x a r
+      → OriginBy (memoryOf T B src N) known w top levels d (countedBy known d g) (Origin.Array c)
 
-pub record ArrayIs (T B : List ℕ) (src : Source) (top c : ℕ) (o : Out) (levels : ℕ) (w w′ : List ℕ) (r : Worked) (b a : List ℕ) : Type 0 where
-  pub left : Left top w w′
-  pub within : WorkedWithin r
-  pub is : (N : Names) (known : ℕ → Option Answer) (d : ℕ) (es : Elements)
-      → ElementsGiven (memoryOf T B src N) known top levels d (c + 1) (c + getD T (8 * c + 1) 0) es
-      → ValueComes (memoryOf T B src N) (nodeIn known (valueIn known d) (array es)) o r b a
+-- with members, which stand from base to end
+pub record MembersBegun (T B : List ℕ) (src : Source) (top : ℕ) (taken : Taken) (levels : ℕ) (w x : List ℕ) (base end : ℕ) (b a : List ℕ) : Type 0 where
+  pub deeper : 1 ≤ levels
+  pub above : top ≤ base
+  pub low : base ≤ end
+  pub high : end ≤ entries
+  pub kept : a ≡ b
+  pub is : (N : Names) (known : ℕ → Option Answer) (d : ℕ) (g : Given Counted) → TakenGiven (memoryOf T B src N) known w top levels d g taken
+      → (u : ℕ) × (os : List Layer) × (countedBy known d g ≡ mergedBy known u os)
+      × MembersGiven (memoryOf T B src N) known x base end (levels - 1) u os
+
+abbrev pub BegunBy : (T B : List ℕ) → Source → ℕ → Taken → Out → ℕ → (w x : List ℕ) → (b a : List ℕ) → Begun → Type 0
+BegunBy T B src top taken o levels w x b a (Begun.Ended v) = TakenValueIs T B src top taken o levels w x v b a
+BegunBy T B src top taken o levels w x b a (Begun.Elements c) = ElementsBegun T B src top taken levels w c b a
+BegunBy T B src top taken o levels w x b a (Begun.Members base end) = MembersBegun T B src top taken levels w x base end b a
+
+pub record BegunIs (T B : List ℕ) (src : Source) (top : ℕ) (taken : Taken) (o : Out) (levels : ℕ) (w x : List ℕ) (r : Begun) (b a : List ℕ) : Type 0 where
+  pub left : Left top w x
+  pub is : BegunBy T B src top taken o levels w x b a r
+
+-- ---- what is met among the members of objects
+
+-- the members with the keys from p on
+abbrev pub membersFrom : Memory → (ℕ → Option Answer) → ℕ → List Layer → List ℕ → ℕ → ℕ → Given Members
+unfolding membersIn
+membersFrom M known d os w p top = membersIn known (valueIn known d) (pushAll known os) (keysFrom M w p top)
+
+-- the key k and what its layers came to, whose value is first among all members
+pub record FieldGiven (M : Memory) (known : ℕ → Option Answer) (x : List ℕ) (top levels d k : ℕ) (taken : Taken) (all rest : Given Members) : Type 0 where
+  pub number : KeyNumber (M .table) (M .items) k
+  pub counted : Given Counted
+  pub given : TakenGiven M known x top levels d counted taken
+  pub defined : countedBy known d counted ≡ value none → ⊥
+  pub is : all ≡ then (countedBy known d counted) (λ v. then rest (λ ms. value (madeMember (M .key k) v ms)))
+
+-- it is written
+pub record FieldBegun (T B : List ℕ) (src : Source) (p top : ℕ) (o : Out) (w x : List ℕ) (taken : Taken) (i : Out) (b a : List ℕ) : Type 0 where
+  pub key : ℕ
+  pub wrote : KeyBeforeIs T B key o i b a
+  pub inside : TakenIn top taken
+  pub is : (N : Names) (known : ℕ → Option Answer) (levels d base : ℕ) (os : List Layer) → MembersGiven (memoryOf T B src N) known w base top levels d os
+      → base ≤ p
+      → FieldGiven (memoryOf T B src N) known x top levels (pred d) key taken (membersFrom (memoryOf T B src N) known d os w p top)
+      (membersFrom (memoryOf T B src N) known d os w (p + 1) top)
+
+-- nothing is written
+pub record FieldPassed (T B : List ℕ) (src : Source) (p top : ℕ) (w b a : List ℕ) : Type 0 where
+  pub kept : a ≡ b
+  pub is : (N : Names) (known : ℕ → Option Answer) (levels d base : ℕ) (os : List Layer) → MembersGiven (memoryOf T B src N) known w base top levels d os
+      → base ≤ p → membersFrom (memoryOf T B src N) known d os w p top ≡ membersFrom (memoryOf T B src N) known d os w (p + 1) top
+
+pub record FieldMissing (T B : List ℕ) (src : Source) (p top : ℕ) (w : List ℕ) (n : ℕ) : Type 0 where
+  pub is : (N : Names) (known : ℕ → Option Answer) (levels d base : ℕ) (os : List Layer) → MembersGiven (memoryOf T B src N) known w base top levels d os
+      → base ≤ p → membersFrom (memoryOf T B src N) known d os w p top ≡ missing n
+
+abbrev pub FieldBy : (T B : List ℕ) → Source → ℕ → ℕ → Out → (w x : List ℕ) → (b a : List ℕ) → Field → Type 0
+FieldBy T B src p top o w x b a Field.Pass = FieldPassed T B src p top w b a
+FieldBy T B src p top o w x b a (Field.Needs n) = FieldMissing T B src p top w n
+FieldBy T B src p top o w x b a (Field.At taken i) = FieldBegun T B src p top o w x taken i b a
+
+pub record FieldIs (T B : List ℕ) (src : Source) (p top : ℕ) (o : Out) (w x : List ℕ) (r : Field) (b a : List ℕ) : Type 0 where
+  pub left : Left top w x
+  pub is : FieldBy T B src p top o w x b a r
+
+-- ---- elements
 
 pub record ElementsIs (T B : List ℕ) (src : Source) (top c : ℕ) (o : Out) (levels : ℕ) (w w′ : List ℕ) (r : Made) (b a : List ℕ) : Type 0 where
   pub left : Left top w w′
@@ -226,8 +281,11 @@ pub record ElementsIs (T B : List ℕ) (src : Source) (top c : ℕ) (o : Out) (l
       → ElementsGiven (memoryOf T B src N) known top levels d (c + 1) (c + getD T (8 * c + 1) 0) es
       → ElementsMade (memoryOf T B src N) (elementsIn known (valueIn known d) es) o r b a
 
-pub record ElementIs (T B : List ℕ) (src : Source) (top c : ℕ) (o : Out) (levels : ℕ) (w w′ : List ℕ) (r : Worked) (b a : List ℕ) : Type 0 where
-  pub left : Left top w w′
-  pub within : WorkedWithin r
-  pub is : (N : Names) (known : ℕ → Option Answer) (d : ℕ) (n : Node) → ElementGiven (memoryOf T B src N) known top levels d c n
-      → ValueComes (memoryOf T B src N) (nodeIn known (valueIn known d) n) o r b a
+-- an element as what layers come to
+abbrev pub takenOf : Answered → Taken
+takenOf (Answered.Missing n) = Taken.Needs n
+takenOf Answered.Undefined = Taken.Nothing
+takenOf (Answered.Layer c) = Taken.One c
+
+pub record ElementTakenIs (T : List ℕ) (c : ℕ) (r : Taken) : Type 0 where
+  pub is : r ≡ takenOf (answeredAt T c)

@@ -13,7 +13,7 @@ use Rattle.eval_stack.specs.Model.{entries, Work, codePlace, codeAt}
 use Rattle.eval_stack.specs.Contracts.{PushIs}
 use Rattle.eval_stack.specs.Pushes.{push-grows, pushed-room, top-room}
 use Rattle.eval_taken.specs.Levels.{same-below, below-then, below-lower}
-use Rattle.eval_sources.specs.Contracts.{SourceIn}
+use Rattle.eval_records.specs.Sources.{SourceIn}
 use Rattle.eval_leaves.specs.Contracts.{FinishedAsked, KeyBeforeIs}
 use Rattle.eval_worked.specs.Contracts.{WorkedWithin, MadeWithin, oneMore, OneMoreIs, HeadedBy, HeadedIs}
 use Rattle.eval_worked.specs.declared.Worked.{Worked}

@@ -6,7 +6,7 @@ use Rattle.rules.specs.Settled.{Given}
 use Rattle.rules.specs.Values.{Values, Members, Answer}
 use Rattle.eval_writer.specs.declared.Out.{Out}
 use Rattle.eval_writer.specs.declared.Source.{Source}
-use Rattle.eval_sources.specs.Contracts.{recordsOf}
+use Rattle.eval_records.specs.Sources.{recordsOf}
 use Rattle.eval_tables.specs.Keys.{KeyNumber}
 use Rattle.eval_tables.specs.Finished.{Memory}
 use Rattle.eval_worked.specs.Comes.{Comes, ElementsCome, FieldsCome}

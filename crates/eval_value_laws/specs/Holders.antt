@@ -1,125 +1,119 @@
--- Arrays and objects by their members: a law for each place where their value returns, and what is lent on.
+-- Values, arrays and objects by their members: a law for each place where their value returns, and what is lent on.
 use mathlib.Core.Path.{_≡_, refl, ap}
-use Prim.Native.Nat.{ℕ, _+_, _-_, _≤_}
-use mathlib.Core.Bool.{Bool, true, false, cond}
-use mathlib.Core.List.{List, [], _∷_}
-use mathlib.Core.Option.{Option, some}
+use Prim.Native.Nat.{ℕ, _+_, _*_, _-_, _≤_, _<_}
+use mathlib.Core.List.{List}
 use native.Mathlib.Omega.{arith}
-use lib.Dec.{ltb}
-use borrow.Author.Tests.{ltb-true}
-use Rattle.rules.specs.Tree.{Node}
-use Rattle.rules.specs.Values.{Answer}
-use Rattle.rules.specs.Layers.{Layer}
-use Rattle.rules.specs.Settled.{mergedIn, nodeIn, valueIn}
-use Rattle.eval_answers.specs.declared.Answered.{Answered}
-use Rattle.eval_members.specs.Model.{keyAt}
-use Rattle.eval_members.specs.Contracts.{AnsweredIs}
+use lib.ListN.{length}
+use Rattle.answers.specs.Ask.{value}
+use Rattle.rules.specs.Layers.{one}
+use Rattle.rules.specs.Settled.{mergedIn, nodeIn, countedIn}
+use Rattle.doc_items.specs.Room.{capacity}
 use Rattle.eval_writer.specs.Building.{inside}
 use Rattle.eval_writer.specs.declared.Out.{Out}
 use Rattle.eval_writer.specs.declared.Source.{Source}
 use Rattle.eval_extents.specs.Contracts.{ClipOutIs}
-use Rattle.eval_stack.specs.Model.{entries, seg}
-use Rattle.eval_groups.specs.Model.{State, putC, addC, addMembersC, objectMembers}
 use Rattle.eval_groups.specs.Contracts.{MembersIs}
-use Rattle.eval_taken.specs.Levels.{members-level}
-use Rattle.eval_sources.specs.Contracts.{recordsOf}
+use Rattle.eval_layers.specs.declared.Taken.{Taken}
+use Rattle.eval_records.specs.Sources.{recordsOf}
 use Rattle.eval_worked.specs.Contracts.{HeadedIs}
 use Rattle.eval_worked.specs.Steps.{array-comes, object-comes}
 use Rattle.eval_worked.specs.declared.Worked.{Worked}
 use Rattle.eval_worked.specs.declared.Made.{Made}
-use Rattle.eval_value_laws.specs.Ground.{Names, memoryOf}
-use Rattle.eval_value_laws.specs.Contracts.{Asked, ElementGiven, NodeIs, ObjectIs, MembersValueIs, FieldsIs, ArrayIs, ElementsIs, ElementIs}
-use Rattle.eval_value_laws.specs.Given.{ElementAs, element-as}
-use Rattle.eval_value_laws.specs.Frames.{left-all, left-then, left-lower, asked-again, clip-not-past, headed-within}
+use Rattle.eval_value_laws.specs.declared.Begun.{Begun}
+use Rattle.eval_value_laws.specs.Contracts.{Asked, NodeIs, ObjectIs, TakenValueIs, FieldsIs, ElementsIs, BegunBy, BegunIs}
+use Rattle.eval_value_laws.specs.Frames.{left-then, left-lower, asked-again, clip-not-past, headed-within}
+use Rattle.eval_value_laws.specs.Begins.{members-high, members-left, members-given}
+
+-- ---- the value of a layer
+
+pub node-is : {T B : List ℕ} {src : Source} {top c levels : ℕ} {o : Out} {w w′ : List ℕ} {r : Worked} {b a : List ℕ}
+    → TakenValueIs T B src top (Taken.One c) o levels w w′ r b a → NodeIs T B src top c o levels w w′ r b a
+unfolding countedIn
+node-is f =
+    record { left = f .left; within = f .within; is = λ N known d l g. f .is N known d (value (one l)) (record { is = (l, refl, g) }) }
+
+pub ruleset node-laws = (node-is)
 
 -- ---- objects
 
--- the stack is not used past its end
-add-high : (key : ℕ → ℕ) (base c : ℕ) (s : State) → s .1 ≤ entries → addC key base c s .1 ≤ entries
-unfolding addC
-add-high key base c s h = go (ltb (s .1) entries) refl
-  where
-    go : (t : Bool) → ltb (s .1) entries ≡ t → (cond {A = State} t (putC key base (s .1) c (s .0), s .1 + 1) s) .1 ≤ entries
-    go true e = let l = ltb-true (s .1) entries e in omega arith
-    go false e = h
-
-adds-high : (key : ℕ → ℕ) (base : ℕ) (cs : List ℕ) (s : State) → s .1 ≤ entries → addMembersC key base cs s .1 ≤ entries
-unfolding addMembersC
-adds-high key base [] s h = h
-adds-high key base (c ∷ cs) s h = adds-high key base cs (addC key base c s) (add-high key base c s h)
-
-pub members-high : {T R : List ℕ} {lo hi top : ℕ} {w x : List ℕ} → hi ≤ entries → MembersIs T R lo hi w x top → top ≤ entries
-members-high {T} {R} {lo} {hi} {top} {w} {x} h m =
-    rw (ap (λ (s : State). s .1) (m .is)) (adds-high (keyAt T R) hi (objectMembers T R (seg w lo (hi - lo))) (w, hi) h)
-
 module _ {B : List ℕ} {src : Source} {w : List ℕ} {hi : ℕ} {o : Out} {b : List ℕ} (A : Asked B src w hi o b) where
-  pub object-asked : {T : List ℕ} {lo top : ℕ} {x : List ℕ} → MembersIs T (recordsOf B src) lo hi w x top → Asked B src x top o b
-  object-asked m = asked-again A (m .len) (members-high (A .used) m) (A .start) refl
-
   -- members behind a head
-  pub inside-asked : {i : Out} → ClipOutIs (inside o) i → Asked B src w hi i b
-  inside-asked c = asked-again A refl (A .used) (clip-not-past c) refl
+  pub object-asked : {T : List ℕ} {lo top : ℕ} {x : List ℕ} {i : Out} → MembersIs T (recordsOf B src) lo hi w x top → ClipOutIs (inside o) i → Asked B src x top i b
+  object-asked m c = asked-again A (m .len) (members-high (A .used) m) (clip-not-past c) refl
 
-  pub object-is : {T : List ℕ} {lo top levels : ℕ} {r : Worked} {x w′ a : List ℕ} → MembersIs T (recordsOf B src) lo hi w x top
-      → MembersValueIs T B src hi top o levels x w′ r b a → ObjectIs T B src lo hi o levels w w′ r b a
-  object-is {T} {lo} {top} {levels} {r} {x} {w′} {a} m f =
+  pub object-is : {T : List ℕ} {lo top levels : ℕ} {i : Out} {made : Made} {r : Worked} {x w′ y a : List ℕ} → MembersIs T (recordsOf B src) lo hi w x top
+      → ClipOutIs (inside o) i → FieldsIs T B src hi top i levels x w′ made b y → HeadedIs o 7 made r y a → ObjectIs T B src lo hi o levels w w′ r b a
+  unfolding mergedIn
+  object-is {levels = levels} m c f h =
       record {
-        left = left-then (record { below = m .below; len = m .len }) (left-lower (m .low) (f .left));
-        within = f .within;
-        is = λ N known d os g.
-            let M = memoryOf T B src N in
-            f .is N known d os (record {
-              ground = g .ground;
-              shown = members-level M (g .ground .tables .stored) known (g .shown) (g .fits) (A .work) m;
-              fits = g .fits;
-              low = omega (arith, g .low);
-              deep = omega (arith, g .deep, g .some);
-            });
+        left = left-then (members-left m) (left-lower (m .low) (f .left));
+        within = headed-within h;
+        is = λ N known d os g. object-comes c (f .is N known d os (members-given {src = src} {N = N} (A .work) m g levels (omega arith))) h;
       }
 
-pub ruleset object-laws = (object-asked, object-is)
+pub ruleset object-laws = (object-is)
 
-pub members-is : {T B : List ℕ} {src : Source} {base top levels : ℕ} {o i : Out} {made : Made} {r : Worked} {w w′ b y a : List ℕ} → ClipOutIs (inside o) i
-    → FieldsIs T B src base top i levels w w′ made b y → HeadedIs o 7 made r y a → MembersValueIs T B src base top o levels w w′ r b a
-unfolding mergedIn
-members-is c f h =
-    record { left = f .left; within = headed-within h; is = λ N known d os g. object-comes c (f .is N known d os g) h }
+-- ---- the value of what layers come to
 
-pub ruleset members-laws = (inside-asked, members-is)
+-- the members' functions have one step more at a level than their values
+pub value-less : {m t : ℕ} → m + 1 ≡ t → m < t
+value-less e = omega arith
 
--- ---- arrays
+module _ {T B : List ℕ} {src : Source} {top levels : ℕ} {taken : Taken} {o : Out} {w x : List ℕ} {r : Begun} {b s : List ℕ}
+    (h : BegunIs T B src top taken o levels w x r b s) where
+  -- by the beginning's case
+  begun-as : (u : Begun) → r ≡ u → BegunBy T B src top taken o levels w x b s u
+  begun-as u e = rw e at (h .is)
 
-pub array-is : {T B : List ℕ} {src : Source} {w : List ℕ} {top c levels : ℕ} {o i : Out} {made : Made} {r : Worked} {w′ b y a : List ℕ}
-    → ClipOutIs (inside o) i → ElementsIs T B src top c i levels w w′ made b y → HeadedIs o 6 made r y a → ArrayIs T B src top c o levels w w′ r b a
-unfolding nodeIn
-array-is c f h =
-    record { left = f .left; within = headed-within h; is = λ N known d es g. array-comes c (f .is N known d es g) h }
+  pub taken-ended : {v : Worked} → r ≡ Begun.Ended v → TakenValueIs T B src top taken o levels w x v b s
+  taken-ended {v} e = begun-as (Begun.Ended v) e
 
-pub ruleset array-laws = (inside-asked, array-is)
+  module _ {i : Out} {made : Made} {v : Worked} {w′ y a : List ℕ} (c : ClipOutIs (inside o) i) where
+    pub taken-elements : {item : ℕ} → r ≡ Begun.Elements item → ElementsIs T B src top item i (levels - 1) x w′ made s y → HeadedIs o 6 made v y a
+        → TakenValueIs T B src top taken o levels w w′ v b a
+    unfolding nodeIn
+    taken-elements {item} e f k =
+        let q = begun-as (Begun.Elements item) e in
+        let f′ : ElementsIs T B src top item i (levels - 1) x w′ made b y = rw (← q .kept) f in
+        record {
+          left = left-then (h .left) (f .left);
+          within = headed-within k;
+          is = λ N known d g G.
+              let z = q .is N known d g G in
+              rw (z .1) (array-comes c (f′ .is N known d (z .0) (z .2)) k);
+        }
 
--- ---- an element
+    pub taken-members : {base end : ℕ} → r ≡ Begun.Members base end → FieldsIs T B src base end i (levels - 1) x w′ made s y → HeadedIs o 7 made v y a
+        → TakenValueIs T B src top taken o levels w w′ v b a
+    unfolding mergedIn
+    taken-members {base} {end} e f k =
+        let q = begun-as (Begun.Members base end) e in
+        let f′ : FieldsIs T B src base end i (levels - 1) x w′ made b y = rw (← q .kept) f in
+        record {
+          left = left-then (h .left) (left-lower (omega (arith, q .above, q .low)) (f .left));
+          within = headed-within k;
+          is = λ N known d g G.
+              let z = q .is N known d g G in
+              rw (z .2) (object-comes c (f′ .is N known (z .0) (z .1) (z .3)) k);
+        }
 
-module _ {T : List ℕ} {c : ℕ} {v : Answered} (h : AnsweredIs T c v) where
-  shows : (B : List ℕ) (src : Source) (top levels : ℕ) (N : Names) (known : ℕ → Option Answer) (d : ℕ) (n : Node) → ElementGiven (memoryOf T B src N) known top levels d c n
-      → ElementAs (memoryOf T B src N) known (valueIn known d) top levels d (nodeIn known (valueIn known d) n) v
-  shows B src top levels N known d n g = rw (h .is) (element-as (memoryOf T B src N) known (valueIn known d) top levels d n g)
+  -- what is lent on
+  pub elements-deeper : {item : ℕ} → r ≡ Begun.Elements item → 1 ≤ levels
+  elements-deeper {item} e = begun-as (Begun.Elements item) e .deeper
 
-  pub element-missing : {B : List ℕ} {src : Source} {top levels : ℕ} {o : Out} {w b : List ℕ} {q : ℕ} → v ≡ Answered.Missing q → ElementIs T B src top c o levels w w (Worked.Needs q) b b
-  element-missing {B} {src} {top} {levels} e = record { left = left-all; within = tt; is = λ N known d n g. record { is = rw e at (shows B src top levels N known d n g) } }
+  pub members-deeper : {base end : ℕ} → r ≡ Begun.Members base end → 1 ≤ levels
+  members-deeper {base} {end} e = begun-as (Begun.Members base end) e .deeper
 
-  pub element-undefined : {B : List ℕ} {src : Source} {top levels : ℕ} {o : Out} {w b : List ℕ} → v ≡ Answered.Undefined → ElementIs T B src top c o levels w w Worked.Undefined b b
-  element-undefined {B} {src} {top} {levels} e = record { left = left-all; within = tt; is = λ N known d n g. record { is = (rw e at (shows B src top levels N known d n g), refl) } }
+  -- members have one level less
+  module _ {i : Out} {t : ℕ} (A : Asked B src w top o b) (c : ClipOutIs (inside o) i) (m : 2 * levels ≡ t) where
+    pub elements-lent : {item : ℕ} → r ≡ Begun.Elements item → (2 * (levels - 1) + 1 < t) × (Asked B src x top i s × (item < capacity))
+    elements-lent {item} e =
+        let q = begun-as (Begun.Elements item) e in
+        (omega (arith, q .deeper), (asked-again A (h .left .len) (A .used) (clip-not-past c) (ap length (q .kept)), q .item))
 
-  pub element-layer : {B : List ℕ} {src : Source} {top levels : ℕ} {o : Out} {w b : List ℕ} {q : ℕ} {w′ : List ℕ} {r : Worked} {a : List ℕ} → v ≡ Answered.Layer q → NodeIs T B src top q o levels w w′ r b a
-      → ElementIs T B src top c o levels w w′ r b a
-  element-layer {B} {src} {top} {levels} {o} {w} {b} {q} {w′} {r} {a} e f =
-      record {
-        left = f .left;
-        within = f .within;
-        is = λ N known d n g.
-            let M = memoryOf T B src N in
-            let x : ElementAs M known (valueIn known d) top levels d (nodeIn known (valueIn known d) n) (Answered.Layer q) = rw e at (shows B src top levels N known d n g) in
-            rw (x .1) (f .is N known d (x .0) (x .2));
-      }
+    pub members-lent : {base end : ℕ} → r ≡ Begun.Members base end → (2 * (levels - 1) + 1 < t) × (Asked B src x end i s × (base ≤ end))
+    members-lent {base} {end} e =
+        let q = begun-as (Begun.Members base end) e in
+        (omega (arith, q .deeper), (asked-again A (h .left .len) (q .high) (clip-not-past c) (ap length (q .kept)), q .low))
 
-pub ruleset element-laws = (element-missing, element-undefined, element-layer)
+pub ruleset taken-laws = (taken-ended, taken-elements, taken-members)

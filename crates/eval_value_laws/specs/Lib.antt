@@ -6,6 +6,7 @@ pub mod Contracts
 pub mod Given
 pub mod Frames
 pub mod Nodes
+pub mod Begins
 pub mod Holders
 pub mod Takings
 pub mod Fields

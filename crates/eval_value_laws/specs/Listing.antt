@@ -5,33 +5,36 @@ use mathlib.Core.List.{List}
 use mathlib.Core.Option.{Option}
 use native.Mathlib.Omega.{arith}
 use lib.ListN.{length, getD}
-use Rattle.answers.specs.Ask.{value, then}
-use Rattle.rules.specs.Tree.{Elements, no-elements, element}
+use Rattle.answers.specs.Ask.{value, missing, then}
+use Rattle.rules.specs.Tree.{Node, Elements, no-elements, element}
 use Rattle.rules.specs.Bytes.{Text}
 use Rattle.rules.specs.Values.{Values, Answer}
-use Rattle.rules.specs.Layers.{madeItem}
-use Rattle.rules.specs.Settled.{Given, nodeIn, elementsIn, valueIn}
+use Rattle.rules.specs.Layers.{Counted, nothing, one, madeItem}
+use Rattle.rules.specs.Settled.{Given, nodeIn, elementsIn, countedIn, valueIn}
 use Rattle.doc_items.specs.Room.{capacity, numberBound}
 use Rattle.doc_items.specs.Writing.{ReadIs}
+use Rattle.eval_answers.specs.declared.Answered.{Answered}
 use Rattle.eval_writer.specs.declared.Out.{Out}
 use Rattle.eval_writer.specs.declared.Source.{Source}
 use Rattle.eval_extents.specs.Contracts.{far, NotPast, Bounded}
 use Rattle.eval_extents.specs.Members.{begun}
 use Rattle.eval_extents.specs.declared.Extent.{Extent}
+use Rattle.eval_members.specs.Model.{answeredAt}
 use Rattle.eval_members.specs.Contracts.{MemberIs}
 use Rattle.eval_members.specs.Members.{skip-less, one-less}
 use Rattle.eval_members.specs.declared.Member.{Member}
 use Rattle.eval_tables.specs.Keys.{KeyNumber}
-use Rattle.eval_sources.specs.Contracts.{recordsOf}
+use Rattle.eval_layers.specs.declared.Taken.{Taken}
+use Rattle.eval_records.specs.Sources.{recordsOf}
 use Rattle.eval_worked.specs.Contracts.{MadeWithin, oneMore, OneMoreIs}
 use Rattle.eval_worked.specs.Comes.{Comes, ElementsCome}
 use Rattle.eval_worked.specs.Steps.{ElementsSoFar, elements-begin, elements-end, elements-done, elements-undefined, elements-need}
 use Rattle.eval_worked.specs.declared.Worked.{Worked}
 use Rattle.eval_worked.specs.declared.Made.{Made}
-use Rattle.eval_value_laws.specs.Ground.{Names, memoryOf}
+use Rattle.eval_value_laws.specs.Ground.{Names, memoryOf, ValueComes}
 use Rattle.eval_value_laws.specs.Elements.{ElementsShown, ElementStep, element-met}
-use Rattle.eval_value_laws.specs.Contracts.{Asked, Left, ElementsGiven, OneMore, ElementsIs, ElementIs}
-use Rattle.eval_value_laws.specs.Given.{element-first, elements-rest}
+use Rattle.eval_value_laws.specs.Contracts.{Asked, Left, ElementGiven, ElementsGiven, TakenIn, TakenGivenBy, countedBy, TakenValueIs, OneMore, ElementsIs, takenOf, ElementTakenIs}
+use Rattle.eval_value_laws.specs.Given.{element-first, elements-rest, ElementAs, element-as}
 use Rattle.eval_value_laws.specs.Frames.{left-all, left-then, asked-again, more-within, one-more}
 
 -- the elements with one more, or the answer that is needed
@@ -45,6 +48,24 @@ grow : {key : ℕ → Text} {P : ℕ → Type 0} {g all : Given Values} {o : Out
 grow a rest z s (Worked.Done m) c = elements-done a rest z s c refl
 grow a rest z s Worked.Undefined c = elements-undefined a rest z s c refl
 grow a rest z s (Worked.Needs j) c = elements-need a rest z s c refl
+
+-- an element's value, as that of what its layers come to
+element-comes : {T B : List ℕ} {src : Source} {top i levels : ℕ} {o : Out} {tk : Taken} {w w′ b a : List ℕ} {u : Worked} (N : Names) (known : ℕ → Option Answer) (d : ℕ) (n : Node)
+    → ElementTakenIs T i tk → TakenValueIs T B src top tk o levels w w′ u b a → ElementGiven (memoryOf T B src N) known top levels d i n
+    → ValueComes (memoryOf T B src N) (nodeIn known (valueIn known d) n) o u b a
+unfolding countedIn
+element-comes {T} {B} {src} {top} {i} {levels} {o} {tk} {w} {w′} {b} {a} {u} N known d n t f g =
+    go (answeredAt T i) (t .is) (element-as (memoryOf T B src N) known (valueIn known d) top levels d n g)
+  where
+    -- by what layers come to
+    by : (v : Taken) → tk ≡ v → (c : Given Counted) → TakenGivenBy (memoryOf T B src N) known w top levels d c v → ValueComes (memoryOf T B src N) (countedBy known d c) o u b a
+    by v e c G = f .is N known d c (record { is = rw e G })
+
+    go : (v : Answered) → tk ≡ takenOf v → ElementAs (memoryOf T B src N) known (valueIn known d) top levels d (nodeIn known (valueIn known d) n) v
+        → ValueComes (memoryOf T B src N) (nodeIn known (valueIn known d) n) o u b a
+    go (Answered.Missing q) e x = rw x (by (Taken.Needs q) e (missing q) refl)
+    go Answered.Undefined e x = rw x (by Taken.Nothing e (value nothing) refl)
+    go (Answered.Layer q) e (l, x, s) = rw x (by (Taken.One q) e (value (one l)) (l, refl, s))
 
 -- the elements before `at` are written
 pub record Listing (T B : List ℕ) (src : Source) (top c : ℕ) (o : Out) (levels end : ℕ) (w₀ b₀ : List ℕ) (at n : ℕ) (e : Extent) (w b : List ℕ) : Type 0 where
@@ -78,6 +99,15 @@ module _ {T B : List ℕ} {src : Source} {top c levels : ℕ} {o : Out} {w₀ b�
     -- what is lent on
     pub listing-asked : Asked B src w₀ top o b₀ → Asked B src w top (e .out) b
     listing-asked A = asked-again A (I .left .len) (A .used) (I .within .out) (I .kept)
+
+    -- an element has no objects on the stack
+    pub listing-inside : {i : ℕ} {tk : Taken} → ElementTakenIs T i tk → TakenIn top tk
+    listing-inside {i} {tk} t = rw (t .is) (go (answeredAt T i))
+      where
+        go : (v : Answered) → TakenIn top (takenOf v)
+        go (Answered.Missing q) = tt
+        go Answered.Undefined = tt
+        go (Answered.Layer q) = tt
 
     pub listing-count : n ≤ far
     listing-count = omega (arith, I .counted, I .near)
@@ -119,7 +149,8 @@ module _ {T B : List ℕ} {src : Source} {top c levels : ℕ} {o : Out} {w₀ b�
           }
 
       module _ {i q : ℕ} (z : v ≡ Member.At i q) where
-        module _ {w′ a : List ℕ} {u : Worked} {r : Made} (f : ElementIs T B src top i (e .out) levels w w′ u b a) (k : OneMoreIs n e u r) where
+        module _ {tk : Taken} {w′ a : List ℕ} {u : Worked} {r : Made} (j : ElementTakenIs T i tk) (f : TakenValueIs T B src top tk (e .out) levels w w′ u b a)
+            (k : OneMoreIs n e u r) where
           -- the element that is met, and those behind it
           step : (N : Names) (known : ℕ → Option Answer) (d : ℕ) (ns : Elements) → ElementsGiven (memoryOf T B src N) known top levels d at end ns
               → ElementStep (memoryOf T B src N) end ns (Member.At i q)
@@ -137,12 +168,12 @@ module _ {T B : List ℕ} {src : Source} {top c levels : ℕ} {o : Out} {w₀ b�
               let y = step N known d (x .0) (x .1) in
               let G = x .1 in
               let G′ : ElementsGiven M known top levels d at end (element (y .0) (y .1)) = rw (← y .2) G in
-              let C = f .is N known d (y .0) (element-first M known top levels d at end (y .0) (y .1) G′ (y .3)) in
+              let C = element-comes N known d (y .0) j f (element-first M known top levels d at end (y .0) (y .1) G′ (y .3)) in
               subst (GrownBy (N .key) (KeyNumber T (N .items)) (elementsIn known (valueIn known d) es) (elementsIn known (valueIn known d) (y .1)) o b₀ a) (sym (k .is))
               (grow (nodeIn known (valueIn known d) (y .0)) (elementsIn known (valueIn known d) (y .1)) (ap (elementsIn known (valueIn known d)) (y .2)) (x .2) u C)
 
-          pub listing-need : {j : ℕ} → r ≡ Made.Needs j → ElementsIs T B src top c o levels w₀ w′ (Made.Needs j) b₀ a
-          listing-need {j} y =
+          pub listing-need : {m : ℕ} → r ≡ Made.Needs m → ElementsIs T B src top c o levels w₀ w′ (Made.Needs m) b₀ a
+          listing-need {m} y =
               record {
                 left = left-then (I .left) (f .left);
                 within = tt;
@@ -154,10 +185,10 @@ module _ {T B : List ℕ} {src : Source} {top c levels : ℕ} {o : Out} {w₀ b�
                     (grown N known d es G);
               }
 
-          pub listing-done : {j : ℕ} {e′ : Extent} → r ≡ Made.Done j e′ → length a ≡ length b → Listing T B src top c o levels end w₀ b₀ q j e′ w′ a
-          listing-done {j} {e′} y s =
-              let t : OneMore n (Made.Done j e′) = rw y at (one-more k) in
-              let v : MadeWithin (Made.Done j e′) = rw y at (more-within (I .within) (f .within) k) in
+          pub listing-done : {h : ℕ} {e′ : Extent} → r ≡ Made.Done h e′ → length a ≡ length b → Listing T B src top c o levels end w₀ b₀ q h e′ w′ a
+          listing-done {h} {e′} y s =
+              let t : OneMore n (Made.Done h e′) = rw y at (one-more k) in
+              let v : MadeWithin (Made.Done h e′) = rw y at (more-within (I .within) (f .within) k) in
               record {
                 left = left-then (I .left) (f .left);
                 kept = s ∙ I .kept;
@@ -178,4 +209,4 @@ module _ {T B : List ℕ} {src : Source} {top c levels : ℕ} {o : Out} {w₀ b�
                     );
               }
 
-pub ruleset elements-laws = (listing-start, listing-asked, listing-end, listing-seam, listing-count, listing-need, listing-done, skip-less, one-less)
+pub ruleset elements-laws = (listing-start, listing-asked, listing-end, listing-seam, listing-inside, listing-count, listing-need, listing-done, skip-less, one-less)

@@ -1,4 +1,4 @@
+mod Standing
 mod Turns
-mod Lists
-mod Loop
+mod Questions
 mod Working

@@ -1,97 +1,141 @@
--- Laws of working a question out.
-use mathlib.Core.Path.{_≡_, refl, sym, ap, _∙_}
+-- Laws of working a question out: of its loop, and of its end.
+use mathlib.Core.Path.{_≡_, refl, _∙_}
 use mathlib.Core.List.{List, [], _∷_}
-use mathlib.Core.Option.{none, some}
-use Prim.Native.Nat.{ℕ, suc, _+_, _≤_, _<_}
+use Prim.Native.Nat.{ℕ, zero, suc, _+_, _-_, _≤_, _<_}
 use native.Mathlib.Omega.{arith}
-use lib.ListN.{length, getD, set, length-set}
-use lib.Seq.{getD-set-same}
+use lib.ListN.{length}
 use Rattle.rules.specs.Sizes.{maxUnresolved}
-use Rattle.rules.specs.Refusals.{placed}
-use Rattle.theory_order.specs.Contracts.{Task, questionsOf, workC}
-use Rattle.theory_order.specs.WorkLaws.{WorkAt, work-begins, work-barred, work-done}
-use Rattle.text_chars.specs.declared.DocAt.{DocAt}
-use Rattle.eval_state.specs.Later.{later-then}
-use Rattle.eval_order.specs.Contracts.{Holding, Begins, BeginAsked, BeginIs}
+use Rattle.theory_order.specs.WorkLaws.{work-begins, work-barred}
+use Rattle.eval_groups.specs.Contracts.{Below}
+use Rattle.eval_state.specs.Later.{later-same}
+use Rattle.eval_sizes.specs.Outcomes.{OutcomeWithin}
+use Rattle.eval_sizes.specs.declared.Outcome.{Outcome}
+use Rattle.eval_unresolved.specs.Contracts.{Asked, OutcomeIs}
 use Rattle.eval_order.specs.declared.Progress.{Progress}
 use Rattle.eval_order.specs.declared.Step.{Step}
-use Rattle.eval_work.specs.Contracts.{Lent, Tasked, RefusedAs, Listing, ListAsked, Done, Ends, ListIs, WorkAsked, WorkedOut, Works, WorkIs}
+use Rattle.eval_turns.specs.Contracts.{TurnAsked, TurnIs, ItemIs}
+use Rattle.eval_turns.specs.declared.Next.{Next}
+use Rattle.eval_work.specs.Contracts.{Lent, WorkAsked, WorkIs}
+use Rattle.eval_work.proofs.Standing.{turnsAt, Come, Pending}
+use Rattle.eval_work.proofs.Turns.{turn-asks, turn-on, turn-ends}
+use Rattle.eval_work.proofs.Questions.{question-asked, question-pends}
 
-module _ {T B E w room trail text : List ℕ} {base b : ℕ} {p : Progress} {budget : ℕ} (A : WorkAsked T B E w room trail text base b p budget) where
-  pub work-begin : BeginAsked T b
-  work-begin = record { number = omega (arith, A .low, A .holding .state .document .read .at-most); table = A .holding .state .document .table }
+pub record LoopInv (E : List ℕ) (base b : ℕ) (p₀ : Progress) (budget : ℕ) (T₀ B₀ w₀ room₀ trail₀ text₀ T B w room trail text L : List ℕ) (n : ℕ) (p : Progress)
+    (o : Outcome) : Type 0 where
+  pub asked : WorkAsked T₀ B₀ E w₀ room₀ trail₀ text₀ base b p₀ budget
+  pub lent : Lent B E w room base
+  pub long : length L ≡ 256
+  pub same-table : length T ≡ length T₀
+  pub same-bytes : length B ≡ length B₀
+  pub same-work : length w ≡ length w₀
+  pub same-room : length room ≡ length room₀
+  pub same-trail : length trail ≡ length trail₀
+  pub same-text : length text ≡ length text₀
+  pub below : Below base w₀ w
+  pub within : OutcomeWithin o
+  pub is : {room₁ : List ℕ} (a : WorkAsked T₀ B₀ E w₀ room₁ trail₀ text₀ base b p₀ budget) → Pending a T B room trail text L n p o
 
-  module _ {T′ : List ℕ} {s : Step} (G : BeginIs b p budget T T′ s) where
-    pub work-refused : {number : ℕ} {place : DocAt} → s ≡ Step.Refused number place
-        → WorkIs E base b p budget T T′ B B w w trail trail text text (Step.Refused number place)
-    work-refused {number} {place} f = record {
-      below = λ i l h. refl;
-      is = λ a.
-          let c : Begins (a .t) (a .key) (a .items) T T′ B trail text [] (a .S) (a .n) b (Step.Refused number place) =
-          rw f at (G .is (a .t) (a .key) (a .items) B trail text [] (a .S) (a .n) (a .budgeted) (a .low) (a .new) (a .holding)) in
+module _ {T₀ B₀ E w₀ room₀ trail₀ text₀ : List ℕ} {base b : ℕ} {p₀ : Progress} {budget : ℕ}
+    (A : WorkAsked T₀ B₀ E w₀ room₀ trail₀ text₀ base b p₀ budget) where
+  pub loop-starts : (L : List ℕ) → length L ≡ 256
+      → LoopInv E base b p₀ budget T₀ B₀ w₀ room₀ trail₀ text₀ T₀ B₀ w₀ room₀ trail₀ text₀ L 0 p₀ (Outcome.Needs b)
+  loop-starts L l = record {
+    asked = A;
+    lent = A .lent;
+    long = l;
+    same-table = refl;
+    same-bytes = refl;
+    same-work = refl;
+    same-room = refl;
+    same-trail = refl;
+    same-text = refl;
+    below = λ i l h. refl;
+    within = tt;
+    is = λ a. record {
+      stands =
           record {
-            refusal = placed number (place .0);
-            is = work-barred (a .t) (a .holding .state .document .read) b (a .S) (a .n) (a .low) (a .new) (a .kept) (placed number (place .0)) c;
-            its-number = refl;
-            its-place = refl;
+            stack = [];
+            S = a .S;
+            count = a .n;
+            listed = tt;
+            many = refl;
+            holding = a .holding;
+            later = later-same T₀ B₀ (a .S);
           };
-    }
+      rises = omega arith;
+      due =
+          record {
+            few = omega arith;
+            low = a .low;
+            new = a .new;
+            begins = λ f. work-begins (a .t) (a .holding .state .document .read) b (a .S) (a .n) (a .low) (a .new) (a .kept) f;
+            barred = λ y f. work-barred (a .t) (a .holding .state .document .read) b (a .S) (a .n) (a .low) (a .new) (a .kept) y f;
+          };
+    };
+  }
 
-    module _ {p′ : Progress} (f : s ≡ Step.On p′) where
-      started : {room : List ℕ} (a : WorkAsked T B E w room trail text base b p budget)
-          → Begins (a .t) (a .key) (a .items) T T′ B trail text [] (a .S) (a .n) b (Step.On p′)
-      started a = rw f at (G .is (a .t) (a .key) (a .items) B trail text [] (a .S) (a .n) (a .budgeted) (a .low) (a .new) (a .holding))
+module _ {E : List ℕ} {base b : ℕ} {p₀ : Progress} {budget : ℕ} {T₀ B₀ w₀ room₀ trail₀ text₀ T B w room trail text L : List ℕ} {n : ℕ} {p : Progress} {o : Outcome}
+    (I : LoopInv E base b p₀ budget T₀ B₀ w₀ room₀ trail₀ text₀ T B w room trail text L n p o) where
+  abbrev A : WorkAsked T₀ B₀ E w₀ room₀ trail₀ text₀ base b p₀ budget
+  A = I .asked
 
-      abbrev one : (X : List ℕ) → maxUnresolved ≤ length X → {room : List ℕ} (a : WorkAsked T B E w room trail text base b p budget)
-          → Listing (a .t) (a .key) (a .items) b (a .S) (a .n) T′ B trail text (set X 0 b) 1 p′
-      one X long a = record {
-        stack = b ∷ [];
-        S = a .S;
-        count = suc (a .n);
-        listed = (getD-set-same X 0 b 0 (omega arith), tt);
-        many = refl;
-        holding = started a .1;
-        at = work-begins (a .t) (a .holding .state .document .read) b (a .S) (a .n) (a .low) (a .new) (a .kept) (started a .0);
-      }
+  wide : maxUnresolved ≤ length L
+  wide = omega (arith, I .long)
 
-      pub work-list : (X : List ℕ) → maxUnresolved ≤ length X → ListAsked T′ B E w room trail text (set X 0 b) base p′ budget
-      work-list X long = record {
-        lent = A .lent;
-        long = omega (arith, long, length-set X 0 b);
-        t = A .t;
-        task = A .task;
-        budgeted = A .budgeted;
-        key = A .key;
-        items = A .items;
-        b = b;
-        S₀ = A .S;
-        n₀ = A .n;
-        listing = one X long A;
-      }
+  pub loop-asked : TurnAsked T B room o L n p budget trail text
+  loop-asked = record { is = turn-asks A (I .is A) wide (I .lent .whole) (I .within) }
 
-      pub work-ends : (X : List ℕ) → maxUnresolved ≤ length X → {T″ B′ w′ trail′ text′ : List ℕ} {r : Step} → ListIs E base p′ budget T′ T″ B B′ w w′ trail trail′ text text′ (set X 0 b) r
-          → WorkIs E base b p budget T T″ B B′ w w′ trail trail′ text text′ r
-      unfolding one
-      work-ends X long {T″} {B′} {w′} {trail′} {text′} {r} N = record {
-        below = N .below;
-        is = λ a. go a r (N .is (a .t) (a .key) (a .items) b (a .S) (a .n) (a .task) (a .budgeted) (one X long a));
-      }
-        where
-          go : {room : List ℕ} (a : WorkAsked T B E w room trail text base b p budget) (z : Step)
-              → Ends (a .t) (a .key) (a .items) b (a .S) (a .n) T′ B (a .S) (suc (a .n)) T″ B′ trail′ text′ z → Works a T″ B′ trail′ text′ z
-          go a (Step.Refused number place) y = y
-          go a (Step.On q) y =
-              let d = work-done (a .t) (a .holding .state .document .read) b (a .S) (a .n) (a .low) (a .new) (a .kept) (y .S′) (y .n′) (y .at) in
-              record {
-                S′ = y .S′;
-                n′ = y .n′;
-                is = d .0;
-                kept = d .1;
-                grows = d .2;
-                fewer = d .3;
-                more = omega (arith, y .rises);
-                holding = y .holding;
-                later = later-then (started a .2) (y .later);
-              }
+  module _ {T′ B′ L′ trail′ text′ : List ℕ} {r : Next} (G : TurnIs room o n p budget T T′ B B′ L L′ trail trail′ text text′ r) where
+    pub work-ends : {s : Step} → r ≡ Next.Ended s → WorkIs E base b p₀ budget T₀ T′ B₀ B′ w₀ w trail₀ trail′ text₀ text′ s
+    work-ends f = record { below = I .below; is = λ a. turn-ends a (I .is a) wide G f }
 
-pub ruleset works = (work-begin, work-refused, work-list, work-ends)
+    module _ {m : ℕ} {p′ : Progress} (f : r ≡ Next.On m p′) where
+      come : {room₁ : List ℕ} (a : WorkAsked T₀ B₀ E w₀ room₁ trail₀ text₀ base b p₀ budget) → Come a T′ B′ trail′ text′ L′ m p′
+      come a = turn-on a (I .is a) wide G f .0
+
+      pub loop-some : 0 < m
+      loop-some = come A .some
+
+      pub loop-less : turnsAt budget m p′ < turnsAt budget n p
+      loop-less = turn-on A (I .is A) wide G f .1
+
+      module _ {item : ℕ} (D : ItemIs T′ L′ m item) where
+        lent : Lent B′ E w room base
+        lent =
+            let l = I .lent in
+            record {
+              whole = l .whole;
+              bytes = omega (arith, A .lent .bytes, come A .stands .later .document .bytes);
+              environment = l .environment;
+              work = l .work;
+              used = l .used;
+            }
+
+        pub value-asked : Asked B′ E w room base item
+        value-asked = question-asked A (come A) D lent
+
+        pub loop-goes : {w′ B″ room′ : List ℕ} {o′ : Outcome} → OutcomeIs T′ E base item w w′ B′ B″ o′ room′ → length T′ ≡ length T → length L′ ≡ 256
+            → length room′ ≡ length room → length trail′ ≡ length trail → length text′ ≡ length text
+            → LoopInv E base b p₀ budget T₀ B₀ w₀ room₀ trail₀ text₀ T′ B″ w′ room′ trail′ text′ L′ m p′ o′
+        loop-goes {w′} {B″} {room′} {o′} O a₁ a₂ a₃ a₄ a₅ = record {
+          asked = A;
+          lent = record {
+            whole = O .whole;
+            bytes = omega (arith, lent .bytes, O .bytes);
+            environment = lent .environment;
+            work = omega (arith, O .left .len, lent .work);
+            used = lent .used;
+          };
+          long = a₂;
+          same-table = a₁ ∙ I .same-table;
+          same-bytes = O .bytes ∙ come A .stands .later .document .bytes;
+          same-work = O .left .len ∙ I .same-work;
+          same-room = a₃ ∙ I .same-room;
+          same-trail = a₄ ∙ I .same-trail;
+          same-text = a₅ ∙ I .same-text;
+          below = λ i l h. O .left .below i l h ∙ I .below i l h;
+          within = O .within;
+          is = λ a. question-pends a (come a) D O;
+        }
+
+pub ruleset works = (loop-starts, loop-asked, work-ends, loop-some, loop-less, value-asked, loop-goes)

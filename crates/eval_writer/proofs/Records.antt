@@ -1,20 +1,15 @@
 -- Laws of the functions that write one record.
 use mathlib.Core.Path.{_≡_, refl, sym, ap, _∙_}
 use Prim.Native.Nat.{ℕ, suc, _+_, _*_, _/_, _%_, _≤_, _<_}
-use mathlib.Core.Bool.{Bool, true, false, cond}
 use mathlib.Core.List.{List, [], _∷_, _++_}
 use native.Mathlib.Omega.{arith}
 use lib.ListN.{length, getD, set, take, drop, length-set, length-drop}
 use lib.Seq.{sets, length-sets, set-out, take-suc, getD-drop, take-set-lt, drop-set-lt, length-take-le}
-use lib.Dec.{leb}
-use borrow.Author.Tests.{le-leb, lt-leb}
-use Rattle.rules.specs.Sizes.{maxRecords, maxText}
 use Rattle.rules.specs.Sheet.{two}
-use Rattle.doc_items.specs.Writing.{ReadIs}
 use Rattle.sheet_kept.specs.InTurn.{extent}
-use Rattle.sheet_kept.specs.Sets.{sets-append, take-sets, drop-sets}
-use Rattle.eval_writer.specs.Model.{wordAt, whole, puts, keyAt, keyLen}
-use Rattle.eval_writer.specs.Contracts.{Room, recordsIn, textsIn, Puts, FilledIs, PutsText, Wrote, KeyWrote}
+use Rattle.sheet_kept.specs.Sets.{sets-append}
+use Rattle.eval_writer.specs.Model.{puts}
+use Rattle.eval_writer.specs.Contracts.{Room, recordsIn, Puts, FilledIs, Wrote}
 use Rattle.eval_writer.specs.declared.Out.{Out}
 
 -- ---- bytes of a record
@@ -86,52 +81,9 @@ module _ {to : ℕ} {from : List ℕ} {at n : ℕ} {b : List ℕ} where
 
 pub ruleset fill-laws = (filling-start, filling-step, filling-end, filling-in)
 
-module _ {o : List ℕ} (to at n : ℕ) (from : List ℕ) where
-  pub text-in : {a : List ℕ} → Room o → at + n ≤ length from → to + n ≤ 16384 → FilledIs (16384 + to) from at n o a → PutsText to n (wordAt from at n) o a
-  unfolding wordAt whole
-  text-in {a} r h k f =
-      let x = take n (drop at from) in
-      let l : to + n ≤ length (drop 16384 o) = omega (arith, length-drop 16384 o) in
-      record {
-        records = ap (take 16384) (f .is) ∙ take-sets 16384 o (16384 + to) x (omega arith);
-        texts = ap (drop 16384) (f .is) ∙ drop-sets 16384 o to x ∙ rw (le-leb (at + n) (length from) h, le-leb (to + n) (length (drop 16384 o)) l);
-      }
-
-  pub text-full : Room o → 16384 < to + n → PutsText to n (wordAt from at n) o o
-  unfolding whole
-  text-full r k =
-      let l : length (drop 16384 o) < to + n = omega (arith, length-drop 16384 o) in
-      record { records = refl; texts = rw (lt-leb (to + n) (length (drop 16384 o)) l) }
-
-  pub text-none : length from < at + n → PutsText to n (wordAt from at n) o o
-  unfolding wordAt whole
-  text-none h = record { records = refl; texts = rw (lt-leb (at + n) (length from) h) (go (leb (to + n) (length (drop 16384 o)))) }
-    where
-      go : (t : Bool) → drop 16384 o ≡ cond t (drop 16384 o) (drop 16384 o)
-      go true = refl
-      go false = refl
-
-pub ruleset text-laws = (text-in, text-full, text-none)
-
--- ---- one record with its text
+-- ---- one byte
 
 pub plain-wrote : {o : Out} {k : ℕ} {b a : List ℕ} → Puts (o .rec .0) (k ∷ []) b a
     → Wrote (k ∷ []) [] o (record { rec = record { 0 = o .rec .0 + 1 }; text = o .text }) b a
 unfolding puts extent
 plain-wrote {o} {k} h = record { records = h .records; texts = h .texts; rec = refl; text = omega arith }
-
-pub word-wrote : {o : Out} {k : ℕ} (m n : ℕ) {x b y a : List ℕ} → Puts (o .rec .0) (k ∷ two m ++ two n) b y → PutsText (o .text .0) n x y a
-    → Wrote (k ∷ two m ++ two n) ((n, x) ∷ []) o (record { rec = record { 0 = o .rec .0 + 5 }; text = record { 0 = o .text .0 + n } }) b a
-unfolding puts extent two
-word-wrote {o} {k} m n {x} h t =
-    record {
-      records = t .records ∙ h .records;
-      texts = t .texts ∙ ap (λ (l : List ℕ). whole l (o .text .0) (n, x)) (h .texts);
-      rec = refl;
-      text = omega arith;
-    }
-
-pub key-wrote : {table bytes : List ℕ} {o r : Out} {k at n : ℕ} {b a : List ℕ} → ReadIs table (8 * k + 2) at → ReadIs table (8 * k + 3) n
-    → Wrote (8 ∷ two k ++ two n) ((n, wordAt bytes at n) ∷ []) o r b a → KeyWrote table bytes k o r b a
-key-wrote {table} {bytes} {o} {r} {k} {at} {n} {b} {a} i j h =
-    record { is = rw (← i .is, ← j .is) h; small = let h = j .small in rw (← j .is) (omega arith) }

@@ -12,8 +12,8 @@ pub struct Used {
     pub text: TextLen,
 }
 
-/// Zeros from an offset up to the end; what is before it stays.
-pub fn clear_from(part: &mut [u8], used: usize)
+// Zeros from an offset up to the end; what is before it stays.
+fn clear_from(part: &mut [u8], used: usize)
     ensures { λ _. ⌜ ClearedIs used (now (part .entry)) (now (part .exit)) ⌝ }
 {
     let n = part.len();
@@ -24,8 +24,8 @@ pub fn clear_from(part: &mut [u8], used: usize)
     }
 }
 
-/// What a resolution uses; a refused one nothing.
-pub fn used_of(resolution: Resolution) -> Used
+// What a resolution uses; a refused one nothing.
+fn used_of(resolution: Resolution) -> Used
     ensures { λ r. ⌜ UsedIs resolution r ⌝ }
 {
     match resolution {

@@ -28,7 +28,8 @@ use Rattle.job_resolved.specs.Contracts.{CheckIs}
 use Rattle.job_resolved.specs.declared.Verdict.{Verdict}
 use Rattle.job_tasks.specs.Contracts.{Ready, TaskCase, TaskIs}
 use Rattle.check_trails.specs.Contracts.{Known}
-use Rattle.job_check.specs.Contracts.{partsFit, PartsFit, SheetAsked, SheetIs}
+use Rattle.check_sheets.specs.Contracts.{SheetAsked, SheetIs}
+use Rattle.job_check.specs.Contracts.{partsFit, PartsFit}
 
 others-true : (others : Bool) (s e : List ℕ) (x : Setting) → inputs others s e ≡ valid x → others ≡ true
 others-true others s e x h = go (bounds others s e)

@@ -1,2 +1,2 @@
-pub mod Sheets
-pub mod Checks
+mod Parts
+mod Checks

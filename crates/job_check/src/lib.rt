@@ -1,16 +1,12 @@
 // The job check: a sheet is held against what the rules give, entry by entry. Nothing of the caller's is written.
 // Computes: Jobs (checkJob)
-use check_entries::Checked;
-use check_roots::check_root;
-use check_trails::check_trail;
+use check_sheets::check_sheet;
 use codes::limits;
-use codes::refusals;
 use job_resolved::Verdict;
 use job_tasks::read_task;
 use read_documents::Reading;
-use text_chars::DocAt;
 ghost use Rattle.job_resolved.specs.Contracts.{CheckIs};
-ghost use Rattle.job_check.specs.Contracts.{PartsFit, SheetAsked, SheetIs};
+ghost use Rattle.job_check.specs.Contracts.{PartsFit};
 
 // Whether no part of a sheet is over its bytes.
 fn parts_fit(trail: &[u8], table: &[u8], text: &[u8]) -> bool
@@ -26,37 +22,6 @@ fn parts_fit(trail: &[u8], table: &[u8], text: &[u8]) -> bool
         return false;
     }
     true
-}
-
-// A sheet against a document of so many unresolved values that stands in memory, with nothing answered yet.
-fn check_sheet(
-    numbers: &mut [u16],
-    bytes: &mut [u8],
-    environment: &[u8],
-    work: &mut [u16],
-    room: &mut [u8],
-    count: usize,
-    trail: &[u8],
-    table: &[u8],
-    text: &[u8],
-) -> Verdict
-    requires { ⌜ SheetAsked (now numbers) (now bytes) (now environment) (now work) (now room) count (now trail) (now text) ⌝ }
-    ensures { λ r. ⌜ SheetIs (now (environment .entry)) count (now (trail .entry)) (now (table .entry)) (now (text .entry))
-        (now (numbers .entry)) (now (bytes .entry)) r ⌝ }
-{
-    match check_trail(numbers, bytes, environment, work, room, count, trail, text) {
-        Checked::Wrong => {}
-        Checked::On(at) => {
-            let texts = at.text;
-            if check_root(numbers, bytes, work, room, texts, table, text) {
-                return Verdict::Accepted;
-            }
-        }
-    }
-    Verdict::Refused {
-        number: refusals::NOT_ACCEPTED,
-        place: DocAt(0),
-    }
 }
 
 /// Checks a sheet: what the rules of the job say, for any bytes.

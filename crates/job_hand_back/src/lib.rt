@@ -23,8 +23,8 @@ pub enum Table {
     NoRoom,
 }
 
-/// The tests of the table, in their order: its size, then its room and what the trail's texts leave of the text part.
-pub fn judge_table(e: Extent, texts: TextAt, room: Sizes) -> Table
+// The tests of the table, in their order: its size, then its room and what the trail's texts leave of the text part.
+fn judge_table(e: Extent, texts: TextAt, room: Sizes) -> Table
     requires { ⌜ texts .0 ≤ maxRoom ⌝ }
     ensures { λ r. ⌜ JudgeIs e (texts .0) room r ⌝ }
 {

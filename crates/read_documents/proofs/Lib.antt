@@ -1,1 +1,4 @@
+pub mod Bodies
+pub mod Outlines
+pub mod Trees
 pub mod Wholes

@@ -21,10 +21,10 @@ use Rattle.doc_items.specs.Parts.{letters}
 use Rattle.read_numbering.specs.Contracts.{CountIs, WithNumbers, NumberIs}
 use Rattle.read_numbering.specs.Reading.{as-read}
 use Rattle.read_numbering.specs.declared.Count.{Count}
-use Rattle.read_trees.specs.Contracts.{ScratchAsked, TreeAt, TreeAs, TreeIs}
+use Rattle.read_documents.specs.Trees.{ScratchAsked, TreeAt, TreeAs, TreeIs}
 use Rattle.read_documents.specs.Contracts.{itemsOf, readingTold, inputTold, ReadAs, NumberTreeIs, DocumentAsked, DocumentIs, InputsAs, InputsIs}
-use Rattle.read_trees.specs.declared.Counters.{Counters}
-use Rattle.read_trees.specs.declared.Tree.{Tree}
+use Rattle.read_documents.specs.declared.Counters.{Counters}
+use Rattle.read_documents.specs.declared.Tree.{Tree}
 use Rattle.read_documents.specs.declared.Reading.{Reading}
 
 -- ---- the numbers

@@ -17,7 +17,7 @@ use Rattle.doc_items.specs.Parts.{numbers, letters}
 use Rattle.doc_items.specs.Room.{tableRoom}
 use Rattle.read_numbering.specs.Contracts.{Indexed}
 use Rattle.text_chars.specs.declared.DocAt.{DocAt}
-use Rattle.read_trees.specs.Contracts.{TreeAt}
+use Rattle.read_documents.specs.Trees.{TreeAt}
 use Rattle.read_documents.specs.declared.Reading.{Reading}
 
 -- an input is refused by this number at this place

@@ -8,8 +8,8 @@ use lib.Dec.{ltb, eqb}
 use lib.ListN.{length}
 use borrow.Author.Tests.{eq-eqb, ne-eqb, ltb-true, ltb-false}
 use Rattle.rules.specs.Bytes.{byteAt}
-use Rattle.theory.specs.Places.{byte-past, byte-inside}
-use Rattle.theory.specs.Ascii.{ascii-next}
+use Rattle.theory_text.specs.Places.{byte-past, byte-inside}
+use Rattle.theory_text.specs.Ascii.{ascii-next}
 use Rattle.text_chars.specs.Cursor.{ByteIs}
 use Rattle.text_scan.specs.Scan.{SeenIs}
 use Rattle.text_scan.specs.declared.Seen.{Seen}

@@ -14,8 +14,8 @@ use Rattle.rules.specs.Characters.{afterInline}
 use Rattle.rules.specs.Pieces.{Token, startsSimple, simpleAt}
 use Rattle.rules.specs.Paths.{startsInclude, Segment, segmentsFrom, segmentsAt, Element, fresh, grown, splitText, splitFrom, elementsOf, judge, keysOf}
 use Rattle.rules.specs.Reading.{inside, valuePlace, allowedKeys, fieldWith, fieldJudged, fieldAt}
-use Rattle.theory.specs.Choices.{by-test}
-use Rattle.theory.specs.Places.{inline-reached}
+use Rattle.theory_text.specs.Choices.{by-test}
+use Rattle.theory_text.specs.Places.{inline-reached}
 use Rattle.theory.specs.Lengths.{IfRead, ends, of-read, then-read, unread, simple-forward, Within, elements-within}
 use Rattle.rules.specs.Paths.{sizes}
 use Rattle.text_chars.specs.declared.DocAt.{DocAt}

@@ -13,7 +13,7 @@ use Rattle.rules.specs.Tree.{Node, simple, array, object, unresolved, Elements,
 use Rattle.rules.specs.Layers.{end}
 use Rattle.rules.specs.Unresolved.{Unresolved, unresolvedIn}
 use Rattle.rules.specs.Documents.{Document, Setting, Input, valid, limited, ofRoot, withEnvironment, readTree, readDocument, inputs}
-use Rattle.theory.specs.Choices.{by-option, by-test}
+use Rattle.theory_text.specs.Choices.{by-option, by-test}
 use Rattle.theory.specs.Reach.{Each, each-at}
 use Rattle.theory.specs.FirstBytes.{IfGiven, is-given, not-given, of-given}
 use Rattle.theory_weights.specs.Numbered.{Of, listed-elements, listed-fields}

@@ -10,7 +10,7 @@ use Rattle.rules.specs.Tree.{Node, simple, array, object, unresolved, Elements,
 use Rattle.rules.specs.Layers.{end}
 use Rattle.rules.specs.Unresolved.{Unresolved, Openness, fieldOpenness, withField, inNode, inElements, inFields, inPieces, unresolvedIn}
 use Rattle.rules.specs.Documents.{Document, valid, limited, ofRoot, readTree, readDocument}
-use Rattle.theory.specs.Choices.{by-option}
+use Rattle.theory_text.specs.Choices.{by-option}
 use Rattle.theory.specs.Numbering.{all-node}
 use Rattle.theory.specs.Reach.{Each, each-append, each-at}
 use Rattle.theory.specs.FirstBytes.{IfGiven, is-given, not-given, of-given}

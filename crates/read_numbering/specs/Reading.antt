@@ -19,7 +19,7 @@ use Rattle.rules.specs.Tree.{Key, Substitution, Node, simple, array, object, un
 use Rattle.rules.specs.Reading.{Start, brace, bracket, dollar, simpleStart, startOf, Part, node, substitution, withPart, countItem, piecesFrom, hasSubstitution, kindOf, unlike, simpleJoined, joined, judgeValue, theEnd, parted, membersFrom, membersAt, FieldRead, valuePlace, allowedKeys, opened, fieldWith, fieldJudged, fieldAt, elementAt, arrayAt, objectAt, pieceAt, valueFrom, rootAt, readRoot}
 use Rattle.rules.specs.Utf8.{illFormed}
 use Rattle.rules.specs.Documents.{readTree}
-use Rattle.theory.specs.Choices.{by-test, by-option}
+use Rattle.theory_text.specs.Choices.{by-test, by-option}
 use Rattle.theory.specs.PathsEnd.{Verdict, passes, refuses, Fitting, judge-verdict}
 use Rattle.theory.specs.Reach.{Each}
 use Rattle.theory.specs.TreeParts.{elements-joined, fields-joined, inside-all, fields-all, elements-all}

@@ -10,7 +10,7 @@ use borrow.Author.Tests.{ltb-true, ltb-false, eq-eqb, ne-eqb}
 use Rattle.rules.specs.Bytes.{byteAt}
 use Rattle.rules.specs.Characters.{nextPlace, afterInline}
 use Rattle.rules.specs.Paths.{braced, substitutionAt}
-use Rattle.theory.specs.Ascii.{ascii-character, ascii-byte, ascii-next}
+use Rattle.theory_text.specs.Ascii.{ascii-character, ascii-byte, ascii-next}
 use Rattle.text_chars.specs.declared.Cursor.{Cursor}
 use Rattle.text_scan.specs.Scan.{SeenIs, EndIs}
 use Rattle.text_scan.specs.declared.Seen.{Seen}

@@ -11,7 +11,7 @@ use Rattle.rules.specs.Sizes.{maxPath}
 use Rattle.rules.specs.Bytes.{Text, byteAt}
 use Rattle.rules.specs.Refusals.{Refusal, numberOf, placeOf, notAllowed, ok, refused, andThen}
 use Rattle.rules.specs.Paths.{segmentsAt, Element, elementsOf, judge, textsOf, braced, sizes}
-use Rattle.theory.specs.Ascii.{ascii-character, ascii-byte, ascii-next}
+use Rattle.theory_text.specs.Ascii.{ascii-character, ascii-byte, ascii-next}
 use Rattle.text_chars.specs.declared.DocAt.{DocAt}
 use Rattle.text_chars.specs.declared.TextLen.{TextLen}
 use Rattle.text_chars.specs.declared.Cursor.{Cursor}

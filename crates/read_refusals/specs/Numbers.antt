@@ -11,9 +11,9 @@ use Rattle.rules.specs.Utf8.{illFormed}
 use Rattle.rules.specs.Tree.{Root, numberRoot}
 use Rattle.rules.specs.Unresolved.{Unresolved, unresolvedIn}
 use Rattle.rules.specs.Documents.{Document, refused, limited, ofRoot, readTree, readDocument, inputs}
-use Rattle.read_trees.specs.Contracts.{TreeIs}
-use Rattle.read_trees.specs.declared.Counters.{Counters}
-use Rattle.read_trees.specs.declared.Tree.{Tree}
+use Rattle.read_documents.specs.Trees.{TreeIs}
+use Rattle.read_documents.specs.declared.Counters.{Counters}
+use Rattle.read_documents.specs.declared.Tree.{Tree}
 use Rattle.read_documents.specs.Contracts.{Told, readingTold, DocumentIs, InputsIs}
 use Rattle.read_documents.specs.declared.Reading.{Reading}
 

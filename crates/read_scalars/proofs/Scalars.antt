@@ -14,7 +14,7 @@ use Rattle.rules.specs.Strings.{quotedAt}
 use Rattle.rules.specs.Refusals.{Refusal, numberOf, placeOf, Scan, ok, refused, andThen}
 use Rattle.rules.specs.Tree.{Scalar, null, boolean, number, string}
 use Rattle.rules.specs.Pieces.{Token, token, startsWith, wordTrue, wordFalse, wordNull, unquotedAt, numberAt, simpleAt, scalarText}
-use Rattle.theory.specs.Choices.{by-test, by-option}
+use Rattle.theory_text.specs.Choices.{by-test, by-option}
 use Rattle.text_chars.specs.Cursor.{doc, cur}
 use Rattle.text_chars.specs.declared.DocAt.{DocAt}
 use Rattle.text_chars.specs.declared.TextLen.{TextLen}

@@ -36,8 +36,8 @@ pub fn scalar_piece(s: &[u8], c: Cursor, w: TextAt, items: usize, text: &mut [u8
     }
 }
 
-/// Writes the whitespace before a piece to the start of the text part, and the piece's item to the start of the table.
-pub fn put_piece(
+// Writes the whitespace before a piece to the start of the text part, and the piece's item to the start of the table.
+fn put_piece(
     s: &[u8],
     place: DocAt,
     from: DocAt,

@@ -11,7 +11,7 @@ use borrow.Author.Tests.{le-leb, lt-leb, ltb-true, ltb-false}
 use Rattle.rules.specs.Bytes.{byteAt, within}
 use Rattle.rules.specs.Sheet.{pairAt}
 use Rattle.rules.specs.LookUp.{afterText, afterMembers, afterRecord, afterValue, isWhole}
-use Rattle.theory.specs.Places.{byte-past}
+use Rattle.theory_text.specs.Places.{byte-past}
 use Rattle.text_chars.specs.Cursor.{ByteIs}
 use Rattle.sheet_kinds.specs.Contracts.{rec, PairIs, EndIs, valueStart}
 use Rattle.sheet_kinds.specs.Kinds.{kindOf, kind-small}

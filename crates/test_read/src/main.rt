@@ -13,8 +13,7 @@ use doc_items::COLUMN_TEXT;
 use doc_items::COLUMN_TEXTLEN;
 use libc::STDOUT_FILENO;
 use read_documents::Reading;
-use text_chars::DocAt;
-ghost use Prim.Native.Nat.{_*_, _≤_, _<_};
+ghost use Prim.Native.Nat.{_*_, _<_};
 ghost use Rattle.doc_items.specs.Codes.{width};
 ghost use Rattle.doc_items.specs.Room.{numberBound, capacity};
 
@@ -37,34 +36,6 @@ fn column(table: &[u16], i: usize, c: usize) -> usize
     if k < table.len() { widen(table[k]) } else { 0 }
 }
 
-fn print_byte(text: &[u8], at: usize) {
-    if at < text.len() {
-        io::print_hex(STDOUT_FILENO, test_cases::wide(text[at]) as u64, 2);
-    }
-}
-
-fn print_bytes(text: &[u8], offset: usize, size: usize)
-    requires { ⌜ offset < numberBound ⌝ }
-    requires { ⌜ size < 4 * numberBound ⌝ }
-{
-    let mut k = 0;
-    while k < size {
-        print_byte(text, offset + k);
-        k += 1;
-    }
-}
-
-fn print_text(text: &[u8], offset: usize, size: usize)
-    requires { ⌜ offset < numberBound ⌝ }
-    requires { ⌜ size < 4 * numberBound ⌝ }
-{
-    if size == 0 {
-        io::write_all(STDOUT_FILENO, b"-");
-    } else {
-        print_bytes(text, offset, size);
-    }
-}
-
 // The size of item i's text; behind the texts of a substitution's path stand their ends, 2 bytes each.
 fn text_size(table: &[u16], i: usize) -> usize
     requires { ⌜ i < capacity ⌝ }
@@ -77,25 +48,8 @@ fn text_size(table: &[u16], i: usize) -> usize
     size + 2 * column(table, i, COLUMN_NUMBER)
 }
 
-// The texts of item i. Those of a simple value's pieces are not looked at: the value has them joined.
-fn print_texts(table: &[u16], text: &[u8], i: usize, looked: bool)
-    requires { ⌜ i < capacity ⌝ }
-{
-    if looked {
-        print_text(
-            text,
-            column(table, i, COLUMN_KEY),
-            column(table, i, COLUMN_KEYLEN),
-        );
-        io::write_all(STDOUT_FILENO, b" ");
-        print_text(text, column(table, i, COLUMN_TEXT), text_size(table, i));
-        io::write_all(STDOUT_FILENO, b" ");
-    } else {
-        io::write_all(STDOUT_FILENO, b"- - ");
-    }
-}
-
-// Writes the line of item i; the items before `simple` are pieces of a simple value. Answers how far that reaches now.
+// Writes the line of item i; the items before `simple` are pieces of a simple value, whose texts are not looked at: the value has them
+// joined. Answers how far that reaches now.
 fn print_item(table: &[u16], text: &[u8], i: usize, simple: usize) -> usize
     requires { ⌜ i < capacity ⌝ }
 {
@@ -103,7 +57,16 @@ fn print_item(table: &[u16], text: &[u8], i: usize, simple: usize) -> usize
     let size = column(table, i, COLUMN_SIZE);
     test_cases::print_number(kind);
     test_cases::print_number(size);
-    print_texts(table, text, i, simple <= i);
+    if simple <= i {
+        test_cases::print_text(
+            text,
+            column(table, i, COLUMN_KEY),
+            column(table, i, COLUMN_KEYLEN),
+        );
+        test_cases::print_text(text, column(table, i, COLUMN_TEXT), text_size(table, i));
+    } else {
+        io::write_all(STDOUT_FILENO, b"- - ");
+    }
     test_cases::print_number(column(table, i, COLUMN_PLACE));
     test_cases::print_last(column(table, i, COLUMN_NUMBER));
     if kind < doc_items::ARRAY {
@@ -113,32 +76,16 @@ fn print_item(table: &[u16], text: &[u8], i: usize, simple: usize) -> usize
     }
 }
 
-fn print_items(table: &[u16], text: &[u8], count: usize)
-    requires { ⌜ count ≤ capacity ⌝ }
-{
+// Writes the root's line and those of so many items.
+fn print_items(table: &[u16], text: &[u8], items: usize) {
     let mut simple = 0;
     let mut i = 0;
-    while i < count {
+    while i < doc_items::CAPACITY {
+        if items < i {
+            return;
+        }
         simple = print_item(table, text, i, simple);
         i += 1;
-    }
-}
-
-fn print_read(items: usize, unresolved: usize) {
-    io::write_all(STDOUT_FILENO, b"0 ");
-    test_cases::print_number(items);
-    test_cases::print_last(unresolved);
-}
-
-fn print_refused(number: u8, place: DocAt) {
-    test_cases::print_number(test_cases::wide(number));
-    test_cases::print_last(place.0);
-}
-
-// The root's line and those of so many items.
-fn print_tree(table: &[u16], text: &[u8], items: usize) {
-    if items < doc_items::CAPACITY {
-        print_items(table, text, items + 1);
     }
 }
 
@@ -147,31 +94,29 @@ fn run(document: &[u8], environment: &[u8]) {
     let mut text = [0u8; doc_items::TEXTS];
     match read_documents::read_inputs(true, document, environment, &mut table, &mut text) {
         Reading::Done { items, unresolved } => {
-            print_read(items, unresolved);
+            io::write_all(STDOUT_FILENO, b"0 ");
+            test_cases::print_number(items);
+            test_cases::print_last(unresolved);
             if document.len() <= 64 {
-                print_tree(&table, &text, items);
+                print_items(&table, &text, items);
             }
         }
-        Reading::Refused { number, place } => print_refused(number, place),
+        Reading::Refused { number, place } => test_cases::print_answer(number, place),
     }
 }
 
 // Runs the next vector, and answers whether there was one.
 fn run_next() -> bool {
-    let mut document = [0u8; 40000];
-    let a = test_cases::read_part(&mut document);
-    if a < 0 {
-        return false;
+    let document = test_cases::next_part(true);
+    let environment = test_cases::next_part(document.there);
+    let a = document.bytes;
+    let b = environment.bytes;
+    let n = document.size;
+    let m = environment.size;
+    if environment.there {
+        run(&a[..n], &b[..m]);
     }
-    let mut environment = [0u8; 10000];
-    let b = test_cases::read_part(&mut environment);
-    if b < 0 {
-        return false;
-    }
-    let n = io::count(a, &document);
-    let m = io::count(b, &environment);
-    run(&document[..n], &environment[..m]);
-    true
+    environment.there
 }
 
 // A loop that is proved has to end, and nothing says that the input does: hence the count of turns.

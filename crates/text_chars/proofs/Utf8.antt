@@ -12,8 +12,8 @@ use Rattle.rules.specs.Sizes.{maxDocument}
 use Rattle.rules.specs.Bytes.{byteAt, skip}
 use Rattle.text_chars.specs.Cursor.{ByteIs, doc, illAt}
 use Rattle.rules.specs.Utf8.{continues, lowest, highest, promised, continued, sequenceAt, wellFormedEnd, illFormed}
-use Rattle.theory.specs.Skips.{skip-on, skip-off}
-use Rattle.theory.specs.Places.{sequence-past, sequence-moves}
+use Rattle.theory_text.specs.Skips.{skip-on, skip-off}
+use Rattle.theory_text.specs.Places.{sequence-past, sequence-moves}
 use Rattle.text_chars.specs.declared.Ill.{Ill}
 
 -- inside a list the default does not matter

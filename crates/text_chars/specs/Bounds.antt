@@ -7,7 +7,7 @@ use native.Mathlib.Omega.{arith}
 use lib.Dec.{ltb}
 use lib.ListN.{length}
 use borrow.Author.Tests.{ltb-true, ltb-false}
-use Rattle.theory.specs.Places.{byte-past}
+use Rattle.theory_text.specs.Places.{byte-past}
 use Rattle.text_chars.specs.Cursor.{ByteIs}
 
 pub byte-le : {s : List ℕ} {at b : ℕ} → ByteIs s at b → b ≤ 256

@@ -9,7 +9,7 @@ use lib.ListN.{length}
 use borrow.Author.Tests.{lt-ltb, le-ltb, eq-eqb, ne-eqb, ltb-true, ltb-false}
 use Rattle.rules.specs.Bytes.{byteAt, within}
 use Rattle.rules.specs.Characters.{characterAt, nextPlace}
-use Rattle.theory.specs.Ascii.{ascii-byte, ascii-character, ascii-next}
+use Rattle.theory_text.specs.Ascii.{ascii-byte, ascii-character, ascii-next}
 use Rattle.text_chars.specs.Cursor.{cur, stepAt, StepMoved, StepIs}
 use Rattle.text_chars.specs.declared.Cursor.{Cursor}
 use Rattle.text_chars.specs.declared.Step.{Step}

@@ -12,7 +12,7 @@ use Rattle.rules.specs.Bytes.{byteAt}
 use Rattle.rules.specs.Characters.{characterAt, isSpace}
 use Rattle.rules.specs.Numbers.{afterInt, afterFraction}
 use Rattle.rules.specs.Micrometres.{firstDigit, decimalTo, decimalOf, afterSpace, unitOf, unitAt}
-use Rattle.theory.specs.Places.{space-moves}
+use Rattle.theory_text.specs.Places.{space-moves}
 use Rattle.theory.specs.Walks as by
 use Rattle.text_chars.specs.Cursor.{ByteIs}
 use Rattle.text_chars.specs.declared.Cursor.{Cursor}

@@ -30,8 +30,8 @@ pub fn is_digit(ch: u32) -> bool
     ch <= bytes::NINE
 }
 
-/// The place after the digits.
-pub fn after_digits(s: &[u8], c: Cursor) -> Cursor
+// The place after the digits.
+fn after_digits(s: &[u8], c: Cursor) -> Cursor
     requires { ⌜ (length (now s) ≤ maxDocument) × (c .at .0 ≤ length (now s)) ⌝ }
     ensures { λ r. ⌜ EndIs (now (s .entry)) (c .at .0) (afterDigits (now (s .entry)) (c .at .0)) r ⌝ }
 {

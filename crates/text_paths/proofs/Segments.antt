@@ -13,8 +13,8 @@ use Rattle.rules.specs.Refusals.{Refusal, placed, Scan, ok, refused, andThen}
 use Rattle.rules.specs.Characters.{afterInline}
 use Rattle.rules.specs.Pieces.{Token, startsSimple, simpleAt}
 use Rattle.rules.specs.Paths.{Segment, segmentOf, gapSegment, segmentsFrom, Element, grown, splitText, splitFrom}
-use Rattle.theory.specs.Choices.{same-test}
-use Rattle.theory.specs.Places.{inline-reached}
+use Rattle.theory_text.specs.Choices.{same-test}
+use Rattle.theory_text.specs.Places.{inline-reached}
 use Rattle.theory.specs.Scanning.{Scans, oks, scan-refuses, From, simple-inside, simple-scans}
 use Rattle.text_segments.specs.Pieces.{remaining, splitTo, segmentTo, pieceTo}
 use Rattle.text_segments.specs.Keeping.{split-is}

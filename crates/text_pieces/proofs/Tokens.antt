@@ -17,8 +17,8 @@ use Rattle.rules.specs.Numbers.{isDigit, afterNumber}
 use Rattle.rules.specs.Strings.{quotedAt}
 use Rattle.rules.specs.Tree.{null, boolean, number, string}
 use Rattle.rules.specs.Pieces.{Token, token, stopsUnquoted, startsSimple, unquotedEnd, startsWith, wordTrue, wordFalse, wordNull, unquotedAt, numberAt, simpleAt, scalarText}
-use Rattle.theory.specs.Ascii.{ascii-character, ascii-byte}
-use Rattle.theory.specs.Places.{unquoted-forward}
+use Rattle.theory_text.specs.Ascii.{ascii-character, ascii-byte}
+use Rattle.theory_text.specs.Places.{unquoted-forward}
 use Rattle.theory.specs.Layout.{same-iff}
 use Rattle.text_chars.specs.Cursor.{doc, cur}
 use Rattle.text_chars.specs.declared.DocAt.{DocAt}

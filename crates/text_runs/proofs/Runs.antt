@@ -10,7 +10,7 @@ use lib.Dec.{ltb, eqb}
 use lib.ListN.{length, getD}
 use borrow.Author.Tests.{lt-ltb, le-ltb, eq-eqb, ne-eqb, ltb-true, ltb-false, eqb-true}
 use Rattle.rules.specs.Bytes.{byteAt}
-use Rattle.theory.specs.Ascii.{ascii-next}
+use Rattle.theory_text.specs.Ascii.{ascii-next}
 use Rattle.text_chars.specs.Cursor.{cur, StepIs}
 use Rattle.text_chars.specs.Seen.{seen}
 use Rattle.text_chars.specs.Clash.{clash}

@@ -5,8 +5,8 @@ use mathlib.Core.List.{List}
 use Prim.Native.Nat.{ℕ, _≤_}
 use native.Mathlib.Omega.{arith}
 use lib.Dec.{ltb, eqb}
-use Rattle.theory.specs.Places.{next-forward}
-use Rattle.theory.specs.Choices.{by-test}
+use Rattle.theory_text.specs.Places.{next-forward}
+use Rattle.theory_text.specs.Choices.{by-test}
 use Rattle.text_chars.specs.Clash.{clash}
 use Rattle.text_runs.specs.Contracts.{stops, Passed, none, on}
 

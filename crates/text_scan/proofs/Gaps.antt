@@ -9,7 +9,7 @@ use lib.Dec.{eqb}
 use borrow.Author.Tests.{ne-eqb}
 use Rattle.rules.specs.Bytes.{byteAt}
 use Rattle.rules.specs.Characters.{nextPlace, characterAt, isNewline, isSpace, startsComment, lineEnd, gapFrom, gapAt}
-use Rattle.theory.specs.Places.{inside, character-past, next-forward, comment-forward, gap-stable}
+use Rattle.theory_text.specs.Places.{inside, character-past, next-forward, comment-forward, gap-stable}
 use Rattle.text_chars.specs.declared.Cursor.{Cursor}
 use Rattle.text_scan.specs.Scan.{SeenIs, EndIs, rest, PassedIs, GapIs}
 use Rattle.text_scan.specs.declared.Seen.{Seen}

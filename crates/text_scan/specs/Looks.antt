@@ -10,8 +10,8 @@ use borrow.Author.Tests.{lt-ltb, ltb-true, ltb-false, eq-eqb, ne-eqb}
 use Rattle.answers.specs.Theory.Sound.{clash}
 use Rattle.rules.specs.Bytes.{byteAt}
 use Rattle.rules.specs.Characters.{noCharacter, widthOf, nextPlace, ofSeveral, characterAt}
-use Rattle.theory.specs.Choices.{by-test}
-use Rattle.theory.specs.Places.{byte-past, character-past, inside}
+use Rattle.theory_text.specs.Choices.{by-test}
+use Rattle.theory_text.specs.Places.{byte-past, character-past, inside}
 use Rattle.text_chars.specs.Cursor.{cur, stepAt, StepIs}
 use Rattle.text_chars.specs.declared.Cursor.{Cursor}
 use Rattle.text_chars.specs.declared.Step.{Step}

@@ -11,7 +11,7 @@ use Rattle.rules.specs.Bytes.{byteAt}
 use Rattle.rules.specs.Characters.{noCharacter, nextPlace, characterAt, isNewline, isInline, afterInline, lineEnd}
 use Rattle.rules.specs.Numbers.{isDigit, afterDigits}
 use Rattle.rules.specs.Pieces.{stopsUnquoted, unquotedEnd}
-use Rattle.theory.specs.Places.{inline-moves, line-moves, unquoted-moves}
+use Rattle.theory_text.specs.Places.{inline-moves, line-moves, unquoted-moves}
 use Rattle.theory.specs.Walks as by
 use Rattle.text_chars.specs.declared.Cursor.{Cursor}
 use Rattle.text_scan.specs.Scan.{SeenIs, EndIs}

@@ -90,8 +90,8 @@ pub fn is_space(ch: u32) -> bool
     ch >= bytes::FILE_SEPARATOR
 }
 
-/// Whitespace but newline.
-pub fn is_inline(ch: u32) -> bool
+// Whitespace but newline.
+fn is_inline(ch: u32) -> bool
     ensures { λ r. ⌜ r ≡ isInline ch ⌝ }
 {
     if is_space(ch) {
@@ -137,8 +137,8 @@ pub fn starts_comment(s: &[u8], c: Cursor) -> bool
     false
 }
 
-/// The newline that ends a comment, or the end of the text.
-pub fn line_end(s: &[u8], c: Cursor) -> Cursor
+// The newline that ends a comment, or the end of the text.
+fn line_end(s: &[u8], c: Cursor) -> Cursor
     requires { ⌜ (length (now s) ≤ maxDocument) × (c .at .0 ≤ length (now s)) ⌝ }
     ensures { λ r. ⌜ EndIs (now (s .entry)) (c .at .0) (lineEnd (now (s .entry)) (c .at .0)) r ⌝ }
 {

@@ -14,7 +14,7 @@ use Rattle.rules.specs.Bytes.{Text, byteAt}
 use Rattle.rules.specs.Refusals.{placed, Scan, ok, refused, andThen}
 use Rattle.rules.specs.Characters.{nextPlace}
 use Rattle.rules.specs.Strings.{escapeAt, prepend, bodyFrom}
-use Rattle.theory.specs.Places.{next-forward}
+use Rattle.theory_text.specs.Places.{next-forward}
 use Rattle.text_chars.specs.declared.DocAt.{DocAt}
 use Rattle.text_chars.specs.declared.Cursor.{Cursor}
 use Rattle.text_runs.specs.Contracts.{stops, Passed, none, on, PlainIs}

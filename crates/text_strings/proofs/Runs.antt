@@ -11,8 +11,8 @@ use borrow.Author.Tests.{lt-ltb, le-ltb, leb-true}
 use Rattle.rules.specs.Bytes.{byteAt}
 use Rattle.rules.specs.Refusals.{Refusal, ended, Scan, ok, refused}
 use Rattle.rules.specs.Strings.{expect, threeQuotes, quotesRun, afterQuotes}
-use Rattle.theory.specs.Choices.{by-test}
-use Rattle.theory.specs.Places.{byte-past, quotes-reached}
+use Rattle.theory_text.specs.Choices.{by-test}
+use Rattle.theory_text.specs.Places.{byte-past, quotes-reached}
 use Rattle.theory.specs.Walks.{run-on, run-off, quotes-on, quotes-off}
 use Rattle.text_chars.specs.Cursor.{doc, StepIs}
 use Rattle.text_chars.specs.Seen.{seen, at-end}

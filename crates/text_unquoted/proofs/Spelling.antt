@@ -10,7 +10,7 @@ use lib.ListN.{length, take, drop, length-take, drop-of-length-le}
 use lib.Seq.{slice-empty, drop-cons, getD-take}
 use borrow.Author.Tests.{ltb-true, ltb-false, ne-eqb}
 use Rattle.rules.specs.Bytes.{Text, byteAt, same}
-use Rattle.theory.specs.Places.{byte-past}
+use Rattle.theory_text.specs.Places.{byte-past}
 use Rattle.rules.specs.Pieces.{wordTrue, wordFalse, wordNull, startsWith}
 use Rattle.text_chars.specs.declared.Cursor.{Cursor}
 use Rattle.text_scan.specs.Scan.{SeenIs}

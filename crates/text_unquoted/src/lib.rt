@@ -17,8 +17,8 @@ use text_scan::is_space;
 use text_scan::look;
 use text_scan::starts_comment;
 
-/// A character that unquoted text cannot have.
-pub fn is_forbidden(ch: u32) -> bool
+// A character that unquoted text cannot have.
+fn is_forbidden(ch: u32) -> bool
     ensures { λ r. ⌜ r ≡ mem ch forbidden ⌝ }
 {
     match ch {

@@ -21,7 +21,7 @@ use Rattle.rules.specs.Sheet.{texts, trailSize, trailTextSize, trailTexts}
 use Rattle.rules.specs.Checking.{accepted}
 use Rattle.rules.specs.Jobs.{orderOf}
 use Rattle.rules.specs.Meaning.{MeanTheSame}
-use Rattle.theory.specs.Choices.{getElem-length}
+use Rattle.theory_text.specs.Choices.{getElem-length}
 use Rattle.theory.specs.Numbering.{prepared}
 use Rattle.theory.specs.Layout.{Numbered, length-trailRecords, length-records, length-texts, length-trailTexts}
 use Rattle.theory.specs.Entries.{rootOf, order-rule, SheetOf, accepted-inv, accepted-intro}

@@ -12,7 +12,7 @@ use Rattle.rules.specs.Values.{Value, Answer, withinSize}
 use Rattle.rules.specs.Documents.{Setting, Input, valid, refused, inputs}
 use Rattle.rules.specs.Sheet.{trailTextSize, trailTexts, texts, tableFits}
 use Rattle.rules.specs.Jobs.{Resolved, refusedWith, roomOf, handedBack, resolved, resolveJob, filled, buffersOf}
-use Rattle.theory.specs.Choices.{by-test}
+use Rattle.theory_text.specs.Choices.{by-test}
 use Rattle.theory.specs.Layout.{length-records, length-texts, length-trailRecords, length-trailTexts}
 use Rattle.theory.specs.Jobs.{resolutionOf}
 use Rattle.theory.specs.BothJobs.{trailFits-inv, tableFits-inv, answered-fits}

@@ -16,7 +16,7 @@ use Rattle.rules.specs.Layers.{Work, Layer, written, settled, Layers, end, laye
 use Rattle.rules.specs.Unresolved.{Open, Unresolved, Openness, fieldOpenness, withField, inNode, inElements, inFields, inPieces, unresolvedIn, behind, forward, layersFor, dotted, orEnvironment, Join, blank, text, joinedArray, joinedObject, joinValue, joinNothing, joinAnswer, sized, joinPiece, depthOf, evaluate, substitutionValue, several, answerOf, rootValue}
 use Rattle.rules.specs.Documents.{Setting, ruleOf}
 use Rattle.rules.specs.Jobs.{orderOf}
-use Rattle.theory.specs.Choices.{by-test, by-option}
+use Rattle.theory_text.specs.Choices.{by-test, by-option}
 use Rattle.theory.specs.Reach.{Each, each-append, each-at, each-reverse}
 use Rattle.theory.specs.Numbering.{Prepared}
 use Rattle.theory.specs.Resolving.{ruled, past, rule-case}

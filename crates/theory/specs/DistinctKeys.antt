@@ -5,7 +5,7 @@ use mathlib.Core.Option.{none, some}
 use Rattle.answers.specs.Theory.Sound.{clash}
 use Rattle.rules.specs.Bytes.{Text, same}
 use Rattle.rules.specs.Values.{Value, scalar, arrayOf, objectOf, Values, no-values, val, Members, no-members, member, Answer, joinValues, putMember, mergeOver, mergeMembers}
-use Rattle.theory.specs.Choices.{by-test}
+use Rattle.theory_text.specs.Choices.{by-test}
 use Rattle.theory.specs.Layout.{same-eq, same-refl}
 use Rattle.rules.specs.NamedValues.{memberOf, Distinct, DistinctValues, DistinctMembers, DistinctAnswer}
 

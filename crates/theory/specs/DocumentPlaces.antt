@@ -17,7 +17,7 @@ use Rattle.rules.specs.Tree.{AllElements, AllFields, AllPieces, numberNode, num
 use Rattle.rules.specs.Reading.{inside}
 use Rattle.rules.specs.Unresolved.{Openness, fieldOpenness, withField, inNode, inElements, inFields, inPieces, unresolvedIn}
 use Rattle.rules.specs.Documents.{Document, Setting, Input, valid, refused, limited, ofRoot, readDocument, withEnvironment, inputs}
-use Rattle.theory.specs.Choices.{by-test, by-option}
+use Rattle.theory_text.specs.Choices.{by-test, by-option}
 use Rattle.theory.specs.Reach.{Each, each-append, each-at}
 use Rattle.theory.specs.RuleRefusals.{PlacesIn, Placed}
 use Rattle.theory.specs.ReadingPlaces.{In, PiecesIn, NodeIn, RootIn, Kept, gots, read-refuses, tree-in}

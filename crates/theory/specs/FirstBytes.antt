@@ -19,8 +19,8 @@ use Rattle.rules.specs.Tree.{Scalar, Key, Substitution, Node, simple, array, ob
 use Rattle.rules.specs.Reading.{Start, brace, bracket, dollar, simpleStart, startOf, Part, node, substitution, withPart, countItem, piecesFrom, hasSubstitution, unlike, kindOf, elementsJoined, fieldsJoined, simpleJoined, joined, judgeValue, theEnd, membersFrom, membersAt, FieldRead, inside, fieldsOf, elementsFrom, allowedKeys, opened, fieldWith, fieldJudged, fieldAt, elementAt, arrayAt, objectAt, pieceAt, valueFrom, rootAt, readRoot}
 use Rattle.rules.specs.Unresolved.{unresolvedIn}
 use Rattle.rules.specs.Documents.{Document, Input, valid, refused, limited, ofRoot, readTree, readDocument, Rising}
-use Rattle.theory.specs.Choices.{by-test, by-option, by-list}
-use Rattle.theory.specs.Places.{inline-reached, gap-reached}
+use Rattle.theory_text.specs.Choices.{by-test, by-option, by-list}
+use Rattle.theory_text.specs.Places.{inline-reached, gap-reached}
 use Rattle.theory.specs.Scanning.{Scans, oks, scan-refuses, From, simple-scans}
 use Rattle.theory.specs.Lengths.{IfRead, read, unread, ends, then-read}
 use Rattle.theory.specs.PathsEnd.{segments-scans, substitution-scans}

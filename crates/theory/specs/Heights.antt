@@ -21,7 +21,7 @@ use Rattle.rules.specs.Tree.{Scalar, Key, Node, simple, array, object, unresolv
 use Rattle.rules.specs.Reading.{Start, brace, bracket, dollar, simpleStart, startOf, Part, node, substitution, withPart, piecesFrom, hasSubstitution, unlike, kindOf, elementsJoined, fieldsJoined, simpleJoined, joined, judgeValue, theEnd, parted, membersFrom, membersAt, FieldRead, inside, fieldsOf, elementsFrom, valuePlace, allowedKeys, opened, fieldWith, fieldJudged, fieldAt, elementAt, arrayAt, objectAt, pieceAt, valueFrom, rootAt, readRoot}
 use Rattle.rules.specs.Unresolved.{unresolvedIn}
 use Rattle.rules.specs.Documents.{Document, Setting, Input, valid, limited, ofRoot, readTree, readDocument, withEnvironment, inputs}
-use Rattle.theory.specs.Choices.{by-test, by-option, by-list}
+use Rattle.theory_text.specs.Choices.{by-test, by-option, by-list}
 use Rattle.theory.specs.PathsEnd.{Verdict, passes, refuses, Fitting, judge-verdict}
 use Rattle.theory.specs.FirstBytes.{IfGot, not-got, gives, of-got, then-got, counted-got, IfGiven, is-given, not-given, of-given}
 use Rattle.theory.specs.Reach.{Each}

@@ -28,7 +28,7 @@ use Rattle.rules.specs.Paths.{pathText}
 use Rattle.rules.specs.LookUp.{isWhole, valueNamed}
 use Rattle.rules.specs.Jobs.{Resolved, refusedWith, roomOf, orderOf, handedBack, resolved, resolveJob, filled, buffersOf}
 use Rattle.rules.specs.Jobs.{Verdict, verdict, checkJob, Found, notFound, foundAt, lookedUp, lookUpJob}
-use Rattle.theory.specs.Choices.{by-test, by-option}
+use Rattle.theory_text.specs.Choices.{by-test, by-option}
 use Rattle.theory.specs.Layout.{both-true}
 use Rattle.theory.specs.Scanning.{Among, readingNumbers}
 use Rattle.theory.specs.Numbering.{Prepared, prepared}

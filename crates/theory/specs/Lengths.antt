@@ -18,8 +18,8 @@ use Rattle.rules.specs.Numbers.{isDigit, afterNumber}
 use Rattle.rules.specs.Strings.{hexDigit, hexFrom, expect, isHigh, isLow, paired, mateOf, unicodeEscape, letterEscape, escapeAt, prepend, bodyFrom, threeQuotes, quotesRun, afterQuotes, tripleAt, quotedAt}
 use Rattle.rules.specs.Pieces.{Token, startsSimple, wordTrue, wordFalse, wordNull, startsWith, unquotedAt, numberAt, simpleAt, scalarText}
 use Rattle.rules.specs.Paths.{Segment, segmentOf, gapSegment, segmentsFrom, segmentsAt, Element, fresh, grown, splitText, splitFrom, elementsOf, sizes}
-use Rattle.theory.specs.Choices.{by-test, by-option}
-use Rattle.theory.specs.Places.{next-forward, run-reached, quotes-reached, inline-reached}
+use Rattle.theory_text.specs.Choices.{by-test, by-option}
+use Rattle.theory_text.specs.Places.{next-forward, run-reached, quotes-reached, inline-reached}
 use Rattle.theory.specs.Scanning.{Scans, oks, simple-scans}
 use Rattle.theory.specs.Layout.{same-eq}
 

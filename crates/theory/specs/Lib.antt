@@ -1,11 +1,7 @@
 -- What is proved of the definitions of `rules`.
 
 -- reading: it never runs out of fuel, and gives only its own numbers; how long texts are; first bytes rise by the numbers
-pub mod Choices
-pub mod Skips
-pub mod Places
 pub mod Walks
-pub mod Ascii
 pub mod Scanning
 pub mod Lengths
 pub mod PathsEnd

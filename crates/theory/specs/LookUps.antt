@@ -19,7 +19,7 @@ use Rattle.rules.specs.Paths.{pathText}
 use Rattle.rules.specs.Sheet.{pairAt}
 use Rattle.rules.specs.LookUp.{afterMembers, afterValue, isWhole, textAt, memberFrom, memberAt, valueNamed}
 use Rattle.rules.specs.Jobs.{Found, notFound, foundAt, lookedUp, lookUpJob}
-use Rattle.theory.specs.Choices.{by-test, by-option}
+use Rattle.theory_text.specs.Choices.{by-test, by-option}
 use Rattle.theory.specs.Scanning.{Among, among-all}
 use Rattle.theory.specs.Layout.{both-true}
 use Rattle.theory.specs.PathNumbers.{pathNumbers, path-text-numbers}

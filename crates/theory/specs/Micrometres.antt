@@ -17,7 +17,7 @@ use Rattle.rules.specs.Utf8.{illFormed}
 use Rattle.rules.specs.LookUp.{isWhole, textAt}
 use Rattle.rules.specs.Micrometres.{Measured, noLength, Decimal, decimalOf, digitsValue, afterSpace, unitAt, inMicrometres, withUnit, withRest, lengthOf}
 use Rattle.rules.specs.Jobs.{recordLength, lengthJob}
-use Rattle.theory.specs.Choices.{by-test, by-option}
+use Rattle.theory_text.specs.Choices.{by-test, by-option}
 use Rattle.theory.specs.Scanning.{among-all}
 use Rattle.theory.specs.Layout.{both-true}
 

@@ -16,7 +16,7 @@ use Rattle.rules.specs.Values.{countValues, countMembers, recordSize, textSize,
 use Rattle.rules.specs.Sheet.{two, pairAt, textRecord, scalarRecord, records, valueRecords, memberRecords, texts}
 use Rattle.rules.specs.LookUp.{afterText, afterValue, textAt, memberFrom, memberAt, valueNamed}
 use Rattle.rules.specs.NamedValues.{memberOf, memberIn, valueAt, Stands, MembersStand}
-use Rattle.theory.specs.Choices.{by-test}
+use Rattle.theory_text.specs.Choices.{by-test}
 use Rattle.theory.specs.Layout.{length-records}
 use Rattle.theory.specs.SameMeaning.{at-right, slice-at, count-members}
 use Rattle.theory.specs.TableSteps.{some-one}

@@ -16,7 +16,7 @@ use Rattle.rules.specs.Tree.{Node, simple, array, object, unresolved, Elements,
 use Rattle.rules.specs.Layers.{end}
 use Rattle.rules.specs.Unresolved.{Unresolved, Openness, fieldOpenness, withField, inNode, inElements, inFields, inPieces, unresolvedIn}
 use Rattle.rules.specs.Documents.{Document, Setting, Input, valid, refused, ofRoot, readTree, readDocument, withEnvironment, inputs}
-use Rattle.theory.specs.Choices.{getElem-length, getElem-none}
+use Rattle.theory_text.specs.Choices.{getElem-length, getElem-none}
 
 module _ {P Q : ℕ → Pieces → Type 0} (h : (b : ℕ) (ps : Pieces) → P b ps → Q b ps) where
   mutual

@@ -17,7 +17,7 @@ use Rattle.rules.specs.Strings.{hexDigit, hexFrom, expect, mateOf, unicodeEscap
 use Rattle.rules.specs.Strings.{prepend, bodyFrom, threeQuotes, isLow, isHigh, quotesRun, quotedAt}
 use Rattle.rules.specs.Pieces.{startsSimple, wordTrue, wordFalse, wordNull, startsWith, unquotedAt, simpleAt}
 use Rattle.rules.specs.Paths.{segmentsFrom, segmentsAt, Element, elementsOf, anyEmpty, judge, judged, pathText}
-use Rattle.theory.specs.Choices.{by-test, by-option}
+use Rattle.theory_text.specs.Choices.{by-test, by-option}
 use Rattle.theory.specs.Scanning.{Among}
 use Rattle.theory.specs.PathsEnd.{path-ends}
 

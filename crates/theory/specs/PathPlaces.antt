@@ -20,8 +20,8 @@ use Rattle.rules.specs.Strings.{hexDigit, hexFrom, expect, isHigh, isLow, mateO
 use Rattle.rules.specs.Strings.{prepend, bodyFrom, threeQuotes, quotesRun, afterQuotes, tripleAt, quotedAt}
 use Rattle.rules.specs.Pieces.{unquotedEnd, startsSimple, wordTrue, wordFalse, wordNull, startsWith, unquotedAt, numberAt, simpleAt}
 use Rattle.rules.specs.Paths.{segmentsFrom, segmentsAt, Element, elementsOf, anyEmpty, judge, judged, pathText}
-use Rattle.theory.specs.Choices.{by-test, by-option}
-use Rattle.theory.specs.Places.{byte-inside, digit-moves, quote-moves}
+use Rattle.theory_text.specs.Choices.{by-test, by-option}
+use Rattle.theory_text.specs.Places.{byte-inside, digit-moves, quote-moves}
 use Rattle.theory.specs.Layout.{same-eq}
 use Rattle.theory.specs.Lengths.{Within, elements-within}
 

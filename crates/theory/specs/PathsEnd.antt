@@ -13,8 +13,8 @@ use Rattle.rules.specs.Refusals.{Refusal, numberOf, notAllowed, refused}
 use Rattle.rules.specs.Characters.{afterInline}
 use Rattle.rules.specs.Pieces.{startsSimple}
 use Rattle.rules.specs.Paths.{segmentsFrom, segmentsAt, Element, elementsOf, anyEmpty, judge, judged, braced, substitutionAt, pathText}
-use Rattle.theory.specs.Choices.{by-test, by-option, getElem-none}
-use Rattle.theory.specs.Places.{inline-reached}
+use Rattle.theory_text.specs.Choices.{by-test, by-option, getElem-none}
+use Rattle.theory_text.specs.Places.{inline-reached}
 use Rattle.theory.specs.Scanning.{among-some, readingNumbers, Numbered, Scans, scan-refuses, scan-refused, From, to, then-scans, scans-from, simple-inside, simple-scans}
 
 -- ---- what is judged

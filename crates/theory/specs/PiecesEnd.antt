@@ -17,8 +17,8 @@ use Rattle.rules.specs.Characters.{afterInline, gapAt, afterGap}
 use Rattle.rules.specs.Pieces.{startsSimple}
 use Rattle.rules.specs.Tree.{Pieces, no-pieces, nodePiece, substituted}
 use Rattle.rules.specs.Reading.{Start, simpleStart, startOf, Part, node, substitution, withPart, countItem, piecesFrom, hasSubstitution, unlike, kindOf, judgeValue, theEnd, afterClosing, parted, membersFrom, membersAt, opened}
-use Rattle.theory.specs.Choices.{by-test, by-option}
-use Rattle.theory.specs.Places.{byte-past, inside, byte-inside, inline-reached, gap-reached}
+use Rattle.theory_text.specs.Choices.{by-test, by-option}
+use Rattle.theory_text.specs.Places.{byte-past, inside, byte-inside, inline-reached, gap-reached}
 use Rattle.theory.specs.Scanning.{Numbered, Scans, oks, scan-refuses, From, to, simple-inside}
 
 -- what is read has Q, or is refused by a number of reading

@@ -20,8 +20,8 @@ use Rattle.rules.specs.Tree.{Key, Node, array, object, Root, numberRoot}
 use Rattle.rules.specs.Reading.{Start, brace, bracket, dollar, simpleStart, startOf, node, theEnd, valuePlace, allowedKeys, fieldWith, fieldJudged, fieldAt, elementAt, arrayAt, objectAt, pieceAt, valueFrom, rootAt, readRoot}
 use Rattle.rules.specs.Unresolved.{unresolvedIn}
 use Rattle.rules.specs.Documents.{Document, Input, valid, refused, limited, ofRoot, readTree, readDocument, withEnvironment, inputs}
-use Rattle.theory.specs.Choices.{by-test, by-option, by-list}
-use Rattle.theory.specs.Places.{gap-reached}
+use Rattle.theory_text.specs.Choices.{by-test, by-option, by-list}
+use Rattle.theory_text.specs.Places.{gap-reached}
 use Rattle.theory.specs.Scanning.{Among, among-some, readingNumbers, Scans, scan-refuses, From, to, simple-scans}
 use Rattle.theory.specs.PathsEnd.{Verdict, passes, refuses, Fitting, judge-verdict, disallowed, segments-scans, substitution-scans}
 use Rattle.theory.specs.PiecesEnd.{Reads, gots, read-refuses, read-refused, at-end, then-reads, reads-map, counting-reads, counted-reads, opened-reads, begun, pieces-read, judge-reads, members-reads}

@@ -26,8 +26,8 @@ use Rattle.rules.specs.Reading.{hasSubstitution, Kind, kindOf, sameKind, unlike
 use Rattle.rules.specs.Reading.{theEnd, afterClosing, parted, membersFrom, membersAt, FieldRead, valuePlace}
 use Rattle.rules.specs.Reading.{allowedKeys, opened, fieldWith, fieldJudged, fieldAt, elementAt, arrayAt, objectAt, pieceAt, valueFrom, rootAt, readRoot}
 use Rattle.rules.specs.Documents.{refused, readTree}
-use Rattle.theory.specs.Choices.{by-test, by-option}
-use Rattle.theory.specs.Places.{byte-past, byte-inside, inside as inside-text}
+use Rattle.theory_text.specs.Choices.{by-test, by-option}
+use Rattle.theory_text.specs.Places.{byte-past, byte-inside, inside as inside-text}
 use Rattle.theory.specs.Lengths.{Within, elements-within}
 use Rattle.theory.specs.PathPlaces.{Stays, skip-stays, next-stays, simple-stays, inline-stays, segments-at-stay, element-within, ill-formed-place}
 use Rattle.theory.specs.Reach.{Each}

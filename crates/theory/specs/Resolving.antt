@@ -17,7 +17,7 @@ use Rattle.rules.specs.Layers.{Work}
 use Rattle.rules.specs.Unresolved.{Unresolved, answerOf, rootValue}
 use Rattle.rules.specs.Documents.{Setting, ruleOf, countOf}
 use Rattle.rules.specs.Jobs.{orderOf}
-use Rattle.theory.specs.Choices.{getElem-length, getElem-none}
+use Rattle.theory_text.specs.Choices.{getElem-length, getElem-none}
 use Rattle.theory.specs.Numbering.{Prepared, numbers-below}
 use Rattle.theory.specs.Ends.{When, WithinSize, Ends, refuses, ends-below, ends-value, ends-refused}
 use Rattle.theory.specs.Reach.{Each, each-at, Quiet}

@@ -18,8 +18,8 @@ use Rattle.rules.specs.Characters.{nextPlace}
 use Rattle.rules.specs.Numbers.{isDigit, afterInt, afterFraction, afterSign, afterExponent, afterNumber}
 use Rattle.rules.specs.Strings.{hexDigit, hexFrom, expect, mateOf, unicodeEscape, letterEscape, escapeAt, prepend, bodyFrom, threeQuotes, isLow, isHigh, quotesRun, tripleAt, quotedAt}
 use Rattle.rules.specs.Pieces.{stopsUnquoted, startsSimple, wordTrue, wordFalse, wordNull, startsWith, unquotedAt, numberAt, simpleAt}
-use Rattle.theory.specs.Choices.{by-test, by-option}
-use Rattle.theory.specs.Places.{next-forward, byte-past, stops-past, inside, digits-reached, run-reached, quotes-reached, unquoted-forward}
+use Rattle.theory_text.specs.Choices.{by-test, by-option}
+use Rattle.theory_text.specs.Places.{next-forward, byte-past, stops-past, inside, digits-reached, run-reached, quotes-reached, unquoted-forward}
 
 -- a refusal's number is one of these
 abbrev pub Among : List ℕ → Refusal → Type 0

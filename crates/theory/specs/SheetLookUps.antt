@@ -22,7 +22,7 @@ use Rattle.rules.specs.Documents.{Setting, Input, valid, refused, inputs}
 use Rattle.rules.specs.Sheet.{records, texts, trailTextSize, trailTexts, tableFits}
 use Rattle.rules.specs.LookUp.{isWhole, valueNamed}
 use Rattle.rules.specs.Jobs.{Resolved, roomOf, handedBack, resolved, resolveJob, notFound, foundAt, lookUpJob, partAt}
-use Rattle.theory.specs.Choices.{by-test}
+use Rattle.theory_text.specs.Choices.{by-test}
 use Rattle.theory.specs.Layout.{both-true, length-records, length-texts, length-trailTexts}
 use Rattle.theory.specs.Ends.{nested}
 use Rattle.theory.specs.Entries.{SheetOf}

@@ -13,7 +13,7 @@ use Rattle.answers.specs.Theory.Sound.{clash}
 use Rattle.rules.specs.Bytes.{byteAt}
 use Rattle.rules.specs.Sheet.{pairAt}
 use Rattle.rules.specs.LookUp.{afterMembers, afterRecord, afterValue}
-use Rattle.theory.specs.Places.{byte-past}
+use Rattle.theory_text.specs.Places.{byte-past}
 use Rattle.theory.specs.TableSteps.{some-one, text-inv, valuePlace, members-zero, members-next, members-inv}
 use Rattle.theory.specs.TableSteps.{record-plain, record-worded, record-holds, RecordAt, plain-at, text-at, container-at, record-inv}
 use Rattle.theory.specs.TableSteps.{text-ends, membersEnd, value-record, value-inv}

@@ -16,8 +16,8 @@ use Rattle.rules.specs.Characters.{afterInline, afterGap}
 use Rattle.rules.specs.Paths.{startsInclude, segmentsAt, Element, elementsOf, keysOf}
 use Rattle.rules.specs.Tree.{Key, Node, array, object, Pieces}
 use Rattle.rules.specs.Reading.{Start, brace, bracket, dollar, simpleStart, startOf, Part, node, withPart, countItem, piecesFrom, judgeValue, theEnd, parted, membersFrom, membersAt, FieldRead, valuePlace, allowedKeys, opened, fieldWith, fieldJudged, fieldAt, elementAt, arrayAt, objectAt, pieceAt, valueFrom, valueIn}
-use Rattle.theory.specs.Choices.{same-test}
-use Rattle.theory.specs.Places.{inline-reached}
+use Rattle.theory_text.specs.Choices.{same-test}
+use Rattle.theory_text.specs.Places.{inline-reached}
 use Rattle.theory.specs.Scanning.{From}
 use Rattle.theory.specs.PathsEnd.{Verdict, passes, refuses, Fitting, judge-verdict}
 use Rattle.theory.specs.PiecesEnd.{Reads, gots, begun, byte-there, parted-scans, counting-reads}

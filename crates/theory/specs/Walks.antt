@@ -12,8 +12,8 @@ use Rattle.rules.specs.Micrometres.{afterSpace}
 use Rattle.rules.specs.Numbers.{isDigit, afterDigits}
 use Rattle.rules.specs.Strings.{threeQuotes, quotesRun, afterQuotes}
 use Rattle.rules.specs.Pieces.{stopsUnquoted, unquotedEnd}
-use Rattle.theory.specs.Skips.{skip-on, skip-off}
-use Rattle.theory.specs.Places.{inline-moves, space-moves, line-moves, digit-moves, run-moves, quote-moves, unquoted-moves}
+use Rattle.theory_text.specs.Skips.{skip-on, skip-off}
+use Rattle.theory_text.specs.Places.{inline-moves, space-moves, line-moves, digit-moves, run-moves, quote-moves, unquoted-moves}
 
 module _ (s : List ℕ) (at : ℕ) where
   enough : length s - at ≤ length s

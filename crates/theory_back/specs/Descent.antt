@@ -9,7 +9,7 @@ use borrow.Author.Tests.{ltb-true, ltb-false, eqb-true, eq-eqb}
 use Rattle.answers.specs.Theory.Sound.{clash}
 use Rattle.rules.specs.Tree.{Key, Node, simple, array, object, unresolved, Elements, no-elements, element, Fields, no-fields, field, Pieces, no-pieces, nodePiece, substituted, joinFields}
 use Rattle.rules.specs.Unresolved.{withField}
-use Rattle.theory.specs.Choices.{by-test}
+use Rattle.theory_text.specs.Choices.{by-test}
 
 -- how many unresolved values are in a node, those inside pieces too
 unfoldable mutual

@@ -8,7 +8,7 @@ use Rattle.answers.specs.Theory.Sound.{clash}
 use Rattle.rules.specs.Bytes.{Text, same}
 use Rattle.rules.specs.Tree.{Key, Fields, no-fields, Root, fields, elements, rootNode}
 use Rattle.rules.specs.Layers.{hasKey}
-use Rattle.theory.specs.Choices.{by-test}
+use Rattle.theory_text.specs.Choices.{by-test}
 use Rattle.theory.specs.Layout.{same-eq, same-refl}
 use Rattle.theory_back.specs.Descent.{downNode, keeps-entered, seen-node}
 use Rattle.theory_back.specs.LookBack.{Left, nextKey, onward, lookBack}

@@ -11,7 +11,7 @@ use lib.Seq.{drop-drop, drop-cons}
 use Rattle.answers.specs.Theory.Sound.{clash}
 use Rattle.rules.specs.Bytes.{Text, same}
 use Rattle.rules.specs.Tree.{Key, Fields, no-fields, Root, fields, elements, rootNode}
-use Rattle.theory.specs.Choices.{by-test}
+use Rattle.theory_text.specs.Choices.{by-test}
 use Rattle.theory_back.specs.Descent.{downNode, downFields, keeps-node, keeps-entered}
 use Rattle.theory_back.specs.LookBack.{Left, nextKey, onward, lookBack, carried, look-carried}
 

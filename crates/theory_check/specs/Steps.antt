@@ -17,7 +17,7 @@ use Rattle.rules.specs.Documents.{Setting, ruleOf, countOf}
 use Rattle.rules.specs.Sheet.{pairAt, records, texts, entrySize, answerTextSize, trailSize, trailTextSize, trailRecords, trailTexts}
 use Rattle.rules.specs.Checking.{answerFor, entriesFrom, isSheet, tableAccepted, accepted}
 use Rattle.rules.specs.Jobs.{orderOf}
-use Rattle.theory.specs.Choices.{getElem-length}
+use Rattle.theory_text.specs.Choices.{getElem-length}
 use Rattle.theory.specs.Layout.{both-true, isSheet-inv, isSheet-intro, entry-some, length-trailRecords, length-trailTexts, length-records, length-texts}
 use Rattle.theory.specs.Entries.{rootOf, answer-inv, answer-intro, entries-end, entries-next, entries-fuel, order-rule}
 use Rattle.theory.specs.Resolving.{ruled, past, rule-case}

@@ -1,5 +1,5 @@
 -- laws: entries
-use Rattle.check_trails.proofs.Trails.{entries}
+use Rattle.check_trails.proofs.Trails.{entries, entry-case, entry-number}
 use borrow.Author.Needs.{needs}
 use Rattle.check_trails.proofs.check_entry.Statement.{statement}
 use Rattle.check_trails.proofs.check_entry.Tie as tie
@@ -10,12 +10,14 @@ check-entry-spec =
     (tie.spec
     (λ c κs. search entries)
     (λ c. search needs)
+    (λ c. search needs)
     (λ c κs. search entries)
-    (λ c. search needs)
-    (λ c. search needs)
-    (λ c. search needs)
-    (λ c. search needs)
+    (λ c κs. search entries)
+    (λ c κs. entry-case (c .before .before .before .before .before .before .before .before .before .before .before .before .before .before .before .before .before .before .before .before .before .before .before .before .before .before .before .before .before .pre) (c .before .before .before .before .before .before .before .before .before .before .before .before .before .before .before .before .before .before .before .next-number .ensures) (c .before .before .before .before .before .before .before .before .before .before .before .before .before .before .before .before .before .b .given .1) (c .before .before .before .before .before .before .before .before .before .before .before .before .before .before .item-of .ensures) (c .before .before .before .before .before .before .before .before .before .unresolved-value .ensures))
     (λ c. search needs)
     (λ c. search entries)
     (λ c. search needs)
-    (λ c. search entries))
+    (λ c. search needs)
+    (λ c. search needs)
+    (λ c. search needs)
+    (λ c. entry-number (c .before .before .before .before .before .before .before .before .before .before .before .before .before .before .before .before .before .before .before .before .before .before .before .before .before .before .before .before .before .before .before .before .before .before .pre) (c .before .before .before .before .before .before .before .before .before .before .before .before .before .before .before .before .before .before .before .before .before .before .before .before .next-number .ensures) (c .before .before .before .before .before .before .before .before .before .before .before .before .before .before .before .before .before .before .before .before .before .before .b .given .1) (c .before .before .before .before .before .before .before .before .before .before .before .before .before .before .before .before .before .before .before .item-of .ensures) (c .before .before .before .before .before .before .before .before .before .before .before .before .before .before .unresolved-value .ensures) (c .before .before .before .before .check-outcome .ensures)))

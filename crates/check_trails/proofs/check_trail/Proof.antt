@@ -14,13 +14,16 @@ abbrev μ-loop : tie.MeasureT-loop
 μ-loop table₀ bytes₀ environment work₀ room₀ count trail text used₀ texts₀ table bytes work room used texts =
     length trail - used
 
+loop-holds : tie.Need-loop-holds Inv-loop μ-loop
+loop-holds c = search trails
+
 pub check-trail-spec : {M : Type 1} → statement M
 check-trail-spec =
     tie.close
     (tie.spec
     Inv-loop
     μ-loop
-    (λ c. search trails)
+    loop-holds
     (λ c κs. search trails)
     (λ c. search needs)
     (λ c. search needs)

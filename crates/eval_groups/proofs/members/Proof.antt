@@ -10,6 +10,9 @@ Inv-loop table records work₀ lo hi i₀ t₀ work i t = MembersInv table recor
 abbrev μ-loop : tie.MeasureT-loop
 μ-loop table records work₀ lo hi i₀ t₀ work i t = i
 
+loop-again : tie.Need-loop-again Inv-loop μ-loop
+loop-again c = search object-addings
+
 pub members-spec : {M : Type 1} → statement M
 members-spec =
     tie.close
@@ -22,6 +25,6 @@ members-spec =
     (λ c κs. search needs)
     (λ c. search needs)
     (λ c. search needs)
-    (λ c. search object-addings)
+    loop-again
     (λ c. search needs)
     (λ c. search object-addings))

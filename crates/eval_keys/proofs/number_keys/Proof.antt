@@ -11,6 +11,9 @@ Inv-loop table₀ texts items i₀ table i = NumbersInv texts items table₀ tab
 abbrev μ-loop : tie.MeasureT-loop
 μ-loop table₀ texts items i₀ table i = items + 1 - i
 
+loop-holds : tie.Need-loop-holds Inv-loop μ-loop
+loop-holds c = search numberings
+
 pub number-keys-spec : {M : Type 1} → statement M
 number-keys-spec =
     tie.close
@@ -18,7 +21,7 @@ number-keys-spec =
     Inv-loop
     μ-loop
     (λ c κs. search needs)
-    (λ c. search numberings)
+    loop-holds
     (λ c κs. search needs)
     (λ c. search needs)
     (λ c. search needs)

@@ -10,6 +10,9 @@ Inv-loop table records work₀ lo hi stuck i₀ top₀ work i top = GatherInv ta
 abbrev μ-loop : tie.MeasureT-loop
 μ-loop table records work₀ lo hi stuck i₀ top₀ work i top = i
 
+returns : tie.Need-returns Inv-loop μ-loop
+returns c = search gathers
+
 pub gather-spec : {M : Type 1} → statement M
 gather-spec =
     tie.close
@@ -23,7 +26,7 @@ gather-spec =
     (λ c. search needs)
     (λ c κs. search needs)
     (λ c. search needs)
-    (λ c. search gathers)
+    returns
     (λ c. search needs)
     (λ c κs. search needs)
     (λ c. search needs)

@@ -16,13 +16,16 @@ Inv-loop table records work₀ base key from end at₀ t₀ work at t =
 abbrev μ-loop : tie.MeasureT-loop
 μ-loop table records work₀ base key from end at₀ t₀ work at t = end - at
 
+loop-holds : tie.Need-loop-holds Inv-loop μ-loop
+loop-holds c = search picks
+
 pub push-members-named-spec : {M : Type 1} → statement M
 push-members-named-spec =
     tie.close
     (tie.spec
     Inv-loop
     μ-loop
-    (λ c. search picks)
+    loop-holds
     (λ c κs. search needs)
     (λ c. search needs)
     (λ c. search needs)

@@ -4,6 +4,9 @@ use borrow.Author.Needs.{needs}
 use Rattle.eval_references.proofs.layers_for.Statement.{statement}
 use Rattle.eval_references.proofs.layers_for.Tie as tie
 
+returns : tie.Need-returns
+returns c = search walks
+
 pub layers-for-spec : {M : Type 1} → statement M
 layers-for-spec =
     tie.close
@@ -12,7 +15,7 @@ layers-for-spec =
     (λ c κs. search needs)
     (λ c κs. search needs)
     (λ c. search needs)
-    (λ c. search walks)
+    returns
     (λ c κs. search needs)
     (λ c κs. search needs)
     (λ c κs. search needs)

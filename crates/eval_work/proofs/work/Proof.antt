@@ -1,33 +1,38 @@
 -- laws: works
-use Rattle.eval_work.proofs.Working.{works, work-list, work-ends}
+use Rattle.eval_work.proofs.Standing.{turnsAt}
+use Rattle.eval_work.proofs.Working.{LoopInv, works, value-asked, loop-goes}
 use borrow.Author.Needs.{needs}
-use native.Mathlib.Omega.{arith}
-use Prim.Native.Nat.{ℕ}
-use lib.ListN.{replicate, length-replicate}
 use Rattle.eval_work.proofs.work.Statement.{statement}
 use Rattle.eval_work.proofs.work.Tie as tie
-use Rattle.eval_work.proofs.work.Reads as reads
-use Rattle.eval_work.proofs.work.Lts as lts
-use Rattle.eval_order.proofs.begin.Reads as begin-reads
-use Rattle.eval_work.proofs.work_list.Reads as work-list-reads
+
+abbrev Inv-loop : tie.InvT-loop
+Inv-loop table₀ bytes₀ env stack₀ base room₀ trail₀ text₀ b budget list₀ n₀ p₀ o₀ table bytes stack room trail text list n p o =
+    LoopInv env base b p₀ budget table₀ bytes₀ stack₀ room₀ trail₀ text₀ table bytes stack room trail text list n p o
+
+abbrev μ-loop : tie.MeasureT-loop
+μ-loop table₀ bytes₀ env stack₀ base room₀ trail₀ text₀ b budget list₀ n₀ p₀ o₀ table bytes stack room trail text list n p o =
+    turnsAt budget n p
 
 pub work-spec : {M : Type 1} → statement M
 work-spec =
     tie.close
     (tie.spec
-    (λ c κs. search needs)
+    Inv-loop
+    μ-loop
+    (λ c. search works)
+    (λ c. search needs)
+    (λ c κs. search works)
     (λ c. search needs)
     (λ c. search needs)
     (λ c. search needs)
     (λ c. search needs)
     (λ c. search needs)
-    (λ c κs. work-list (c .before .before .before .before .before .before .before .before .before .before .before .before .before .before .before .before .before .before .before .before .before .pre) (c .before .before .before .before .before .before .before .before .before .before .before .before .begin .ensures) (search needs) (replicate 256 0) (omega (arith, length-replicate {A = ℕ} 256 0)))
+    (λ c. search needs)
     (λ c. search needs)
     (λ c. search works)
     (λ c. search needs)
     (λ c. search needs)
-    (λ c. search needs)
-    (λ c. search needs)
-    (λ c. search needs)
-    (λ c. search needs)
-    (λ c. work-ends (c .before .before .before .before .before .before .before .before .before .before .before .before .before .before .before .before .before .before .before .before .before .before .before .before .before .before .before .before .before .before .before .before .before .before .before .pre) (c .before .before .before .before .before .before .before .before .before .before .before .before .before .before .before .before .before .before .before .before .before .before .before .before .before .before .begin .ensures) (search needs) (replicate 256 0) (omega (arith, length-replicate {A = ℕ} 256 0)) (c .before .before .before .before .before .before .before .before .before .before .before .before .before .work-list .ensures)))
+    (λ c κs. search works)
+    (λ c κs. value-asked (c .before .before .before .before .before .before .before .before .before .before .before .before .before .before .before .before .before .before .before .before .before .before .before .before .before .before .loop .inv) (c .before .before .before .before .before .before .before .before .before .before .before .before .before .before .before .before .before .before .before .turned .ensures) (c .before .before .before .before .before .before .before .before .count .given .1) (c .before .before .before .before .newest-item .ensures))
+    (λ c. let i = c .before .before .before .before .before .before .before .before .before .before .before .before .before .before .before .before .before .before .before .before .before .before .before .before .before .before .before .before .before .before .before .before .before .loop .inv in let g = c .before .before .before .before .before .before .before .before .before .before .before .before .before .before .before .before .before .before .before .before .before .before .before .before .before .before .turned .ensures in search works)
+    (λ c. loop-goes (c .before .before .before .before .before .before .before .before .before .before .before .before .before .before .before .before .before .before .before .before .before .before .before .before .before .before .before .before .before .before .before .before .before .loop .inv) (c .before .before .before .before .before .before .before .before .before .before .before .before .before .before .before .before .before .before .before .before .before .before .before .before .before .before .turned .ensures) (search needs) (c .before .before .before .before .before .before .before .before .before .before .before .newest-item .ensures) (c .before .before .before .before .before .before .unresolved-value .ensures) (search needs) (search needs) (search needs) (search needs) (search needs)))

@@ -4,6 +4,9 @@ use borrow.Author.Needs.{needs}
 use Rattle.read_documents.proofs.read_document.Statement.{statement}
 use Rattle.read_documents.proofs.read_document.Tie as tie
 
+returns : tie.Need-returns
+returns c = search whole-documents
+
 pub read-document-spec : {M : Type 1} → statement M
 read-document-spec =
     tie.close
@@ -14,7 +17,7 @@ read-document-spec =
     (λ c κs. search whole-documents)
     (λ c. search needs)
     (λ c. search needs)
-    (λ c. search whole-documents)
+    returns
     (λ c. search needs)
     (λ c. search needs)
     (λ c. search whole-documents))

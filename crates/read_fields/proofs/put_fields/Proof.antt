@@ -12,6 +12,9 @@ Inv-loop table₀ marks count size base kind text textlen j₀ from₀ table j f
 abbrev μ-loop : tie.MeasureT-loop
 μ-loop table₀ marks count size base kind text textlen j₀ from₀ table j from = count - j
 
+loop-again : tie.Need-loop-again Inv-loop μ-loop
+loop-again c = search puts
+
 pub put-fields-spec : {M : Type 1} → statement M
 put-fields-spec =
     tie.close
@@ -24,7 +27,7 @@ put-fields-spec =
     (λ c κs. search puts)
     (λ c. search needs)
     (λ c. search needs)
-    (λ c. search puts)
+    loop-again
     (λ c κs. search puts)
     (λ c. search needs)
     (λ c. search puts))

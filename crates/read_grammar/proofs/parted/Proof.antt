@@ -4,6 +4,9 @@ use borrow.Author.Needs.{needs}
 use Rattle.read_grammar.proofs.parted.Statement.{statement}
 use Rattle.read_grammar.proofs.parted.Tie as tie
 
+returns-5 : tie.Need-returns-5
+returns-5 c = search partings
+
 pub parted-spec : {M : Type 1} → statement M
 parted-spec =
     tie.close
@@ -15,4 +18,4 @@ parted-spec =
     (λ c. search partings)
     (λ c. search partings)
     (λ c. search partings)
-    (λ c. search partings))
+    returns-5)

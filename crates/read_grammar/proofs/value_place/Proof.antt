@@ -4,6 +4,9 @@ use borrow.Author.Needs.{needs}
 use Rattle.read_grammar.proofs.value_place.Statement.{statement}
 use Rattle.read_grammar.proofs.value_place.Tie as tie
 
+returns-2 : tie.Need-returns-2
+returns-2 c = search values
+
 pub value-place-spec : {M : Type 1} → statement M
 value-place-spec =
     tie.close
@@ -13,7 +16,7 @@ value-place-spec =
     (λ c κs. search needs)
     (λ c. search values)
     (λ c κs. search needs)
-    (λ c. search values)
+    returns-2
     (λ c. search values)
     (λ c κs. search needs)
     (λ c. search values))

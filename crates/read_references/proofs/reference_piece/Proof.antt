@@ -4,6 +4,9 @@ use borrow.Author.Needs.{needs}
 use Rattle.read_references.proofs.reference_piece.Statement.{statement}
 use Rattle.read_references.proofs.reference_piece.Tie as tie
 
+returns-2 : tie.Need-returns-2
+returns-2 c = search links
+
 pub reference-piece-spec : {M : Type 1} → statement M
 reference-piece-spec =
     tie.close
@@ -16,4 +19,4 @@ reference-piece-spec =
     (λ c. search needs)
     (λ c. search links)
     (λ c. search needs)
-    (λ c. search links))
+    returns-2)

@@ -4,6 +4,9 @@ use borrow.Author.Needs.{needs}
 use Rattle.sheet_forms.proofs.record_at.Statement.{statement}
 use Rattle.sheet_forms.proofs.record_at.Tie as tie
 
+returns-2 : tie.Need-returns-2
+returns-2 c = search record-laws
+
 pub record-at-spec : {M : Type 1} → statement M
 record-at-spec =
     tie.close
@@ -21,7 +24,7 @@ record-at-spec =
     (λ c κs. search needs)
     (λ c. search needs)
     (λ c κs. search needs)
-    (λ c. search record-laws)
+    returns-2
     (λ c. search record-laws)
     (λ c. search record-laws)
     (λ c. search record-laws)

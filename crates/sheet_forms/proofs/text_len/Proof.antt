@@ -4,6 +4,9 @@ use borrow.Author.Needs.{needs}
 use Rattle.sheet_forms.proofs.text_len.Statement.{statement}
 use Rattle.sheet_forms.proofs.text_len.Tie as tie
 
+returns-4 : tie.Need-returns-4
+returns-4 c = search text-len-laws
+
 pub text-len-spec : {M : Type 1} → statement M
 text-len-spec =
     tie.close
@@ -19,4 +22,4 @@ text-len-spec =
     (λ c. search needs)
     (λ c. search needs)
     (λ c. search needs)
-    (λ c. search text-len-laws))
+    returns-4)

@@ -4,6 +4,9 @@ use borrow.Author.Needs.{needs}
 use Rattle.sheet_kinds.proofs.after_text.Statement.{statement}
 use Rattle.sheet_kinds.proofs.after_text.Tie as tie
 
+returns-3 : tie.Need-returns-3
+returns-3 c = search texts
+
 pub after-text-spec : {M : Type 1} → statement M
 after-text-spec =
     tie.close
@@ -18,5 +21,5 @@ after-text-spec =
     (λ c. search needs)
     (λ c. search texts)
     (λ c. search needs)
-    (λ c. search texts)
+    returns-3
     (λ c. search texts))

@@ -4,10 +4,13 @@ use borrow.Author.Needs.{needs}
 use Rattle.sheet_kinds.proofs.value_start.Statement.{statement}
 use Rattle.sheet_kinds.proofs.value_start.Tie as tie
 
+returns : tie.Need-returns
+returns c = search starts
+
 pub value-start-spec : {M : Type 1} → statement M
 value-start-spec =
     tie.close
     (tie.spec
     (λ c κs. search needs)
-    (λ c. search starts)
+    returns
     (λ c. search starts))

@@ -13,6 +13,9 @@ Inv-loop room len part p₀ text₀ p text = Going eqAt Form.Public part room (l
 abbrev μ-loop : tie.MeasureT-loop
 μ-loop room len part p₀ text₀ p text = len .0 - p
 
+loop-again : tie.Need-loop-again Inv-loop μ-loop
+loop-again c = search compare-laws
+
 pub same-records-spec : {M : Type 1} → statement M
 same-records-spec =
     tie.close
@@ -28,5 +31,5 @@ same-records-spec =
     (λ c. search needs)
     (λ c. search compare-laws)
     (λ c. search compare-laws)
-    (λ c. search compare-laws)
+    loop-again
     (λ c. search compare-laws))

@@ -4,6 +4,9 @@ use borrow.Author.Needs.{needs}
 use Rattle.sheet_records.proofs.is_whole.Statement.{statement}
 use Rattle.sheet_records.proofs.is_whole.Tie as tie
 
+returns : tie.Need-returns
+returns c = search wholes
+
 pub is-whole-spec : {M : Type 1} → statement M
 is-whole-spec =
     tie.close
@@ -11,5 +14,5 @@ is-whole-spec =
     (λ c κs. search needs)
     (λ c. search needs)
     (λ c. search needs)
-    (λ c. search wholes)
+    returns
     (λ c. search wholes))

@@ -4,6 +4,9 @@ use borrow.Author.Needs.{needs}
 use Rattle.sheet_records.proofs.member.Statement.{statement}
 use Rattle.sheet_records.proofs.member.Tie as tie
 
+returns : tie.Need-returns
+returns c = search objects
+
 pub member-spec : {M : Type 1} → statement M
 member-spec =
     tie.close
@@ -13,5 +16,5 @@ member-spec =
     (λ c κs. search objects)
     (λ c. search needs)
     (λ c κs. search objects)
-    (λ c. search objects)
+    returns
     (λ c. search objects))

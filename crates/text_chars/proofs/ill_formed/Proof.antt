@@ -11,6 +11,9 @@ Inv-loop s at₀ at = Formed s at
 abbrev μ-loop : tie.MeasureT-loop
 μ-loop s at₀ at = 32772 - at
 
+returns : tie.Need-returns Inv-loop μ-loop
+returns c = search formed
+
 pub ill-formed-spec : {M : Type 1} → statement M
 ill-formed-spec =
     tie.close
@@ -19,7 +22,7 @@ ill-formed-spec =
     μ-loop
     (λ c. search formed)
     (λ c κs. search needs)
-    (λ c. search formed)
+    returns
     (λ c. search needs)
     (λ c. search needs)
     (λ c. search formed)

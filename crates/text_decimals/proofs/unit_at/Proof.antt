@@ -4,6 +4,9 @@ use borrow.Author.Needs.{needs}
 use Rattle.text_decimals.proofs.unit_at.Statement.{statement}
 use Rattle.text_decimals.proofs.unit_at.Tie as tie
 
+returns : tie.Need-returns
+returns c = search unit-ends-with
+
 pub unit-at-spec : {M : Type 1} → statement M
 unit-at-spec =
     tie.close
@@ -13,5 +16,5 @@ unit-at-spec =
     (λ c. search needs)
     (λ c κs. search needs)
     (λ c κs. search needs)
-    (λ c. search unit-ends-with)
+    returns
     (λ c. search unit-ends-with))

@@ -4,6 +4,9 @@ use borrow.Author.Needs.{needs}
 use Rattle.text_marks.proofs.judge_elements.Statement.{statement}
 use Rattle.text_marks.proofs.judge_elements.Tie as tie
 
+returns-3 : tie.Need-returns-3
+returns-3 c = search judgements
+
 pub judge-elements-spec : {M : Type 1} → statement M
 judge-elements-spec =
     tie.close
@@ -11,5 +14,5 @@ judge-elements-spec =
     (λ c. search judgements)
     (λ c. search judgements)
     (λ c κs. search needs)
-    (λ c. search judgements)
+    returns-3
     (λ c. search judgements))

@@ -4,6 +4,9 @@ use borrow.Author.Needs.{needs}
 use Rattle.text_micrometres.proofs.in_micrometres.Statement.{statement}
 use Rattle.text_micrometres.proofs.in_micrometres.Tie as tie
 
+returns : tie.Need-returns
+returns c = search ins
+
 pub in-micrometres-spec : {M : Type 1} → statement M
 in-micrometres-spec =
     tie.close
@@ -14,6 +17,6 @@ in-micrometres-spec =
     (λ c. search needs)
     (λ c κs. search needs)
     (λ c. search in-fits)
-    (λ c. search ins)
+    returns
     (λ c. search ins)
     (λ c. search ins))

@@ -14,6 +14,9 @@ Inv-loop s p₀ p = Going afterInline s (p₀ .at .0) p
 abbrev μ-loop : tie.MeasureT-loop
 μ-loop s p₀ p = length s - p .at .0
 
+loop-again : tie.Need-loop-again Inv-loop μ-loop
+loop-again c = search inline-loop
+
 pub after-inline-spec : {M : Type 1} → statement M
 after-inline-spec =
     tie.close
@@ -24,5 +27,5 @@ after-inline-spec =
     (λ c κs. search needs)
     (λ c κs. search needs)
     (λ c. search inline-loop)
-    (λ c. search inline-loop)
+    loop-again
     (λ c. search inline-loop))

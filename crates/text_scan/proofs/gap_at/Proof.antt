@@ -13,13 +13,16 @@ Inv-loop s g₀ g = Widening s (g₀ .next .at .0) g
 abbrev μ-loop : tie.MeasureT-loop
 μ-loop s g₀ g = length s - g .next .at .0
 
+loop-holds : tie.Need-loop-holds Inv-loop μ-loop
+loop-holds c = search gaps
+
 pub gap-at-spec : {M : Type 1} → statement M
 gap-at-spec =
     tie.close
     (tie.spec
     Inv-loop
     μ-loop
-    (λ c. search gaps)
+    loop-holds
     (λ c κs. search needs)
     (λ c. search needs)
     (λ c. search gaps)

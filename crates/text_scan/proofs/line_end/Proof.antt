@@ -14,7 +14,10 @@ Inv-loop s p₀ p = Going lineEnd s (p₀ .at .0) p
 abbrev μ-loop : tie.MeasureT-loop
 μ-loop s p₀ p = length s - p .at .0
 
+returns : tie.Need-returns Inv-loop μ-loop
+returns c = search line-loop
+
 pub line-end-spec : {M : Type 1} → statement M
 line-end-spec =
     tie.close
-    (tie.spec Inv-loop μ-loop (λ c. search line-loop) (λ c κs. search needs) (λ c. search line-loop) (λ c. search line-loop) (λ c. search line-loop) (λ c. search line-loop))
+    (tie.spec Inv-loop μ-loop (λ c. search line-loop) (λ c κs. search needs) returns (λ c. search line-loop) (λ c. search line-loop) (λ c. search line-loop))

@@ -4,6 +4,9 @@ use borrow.Author.Needs.{needs}
 use Rattle.text_segments.proofs.advance.Statement.{statement}
 use Rattle.text_segments.proofs.advance.Tie as tie
 
+returns : tie.Need-returns
+returns c = search advances-so
+
 pub advance-spec : {M : Type 1} → statement M
 advance-spec =
-    tie.close (tie.spec (λ c κs. search needs) (λ c κs. search needs) (λ c. search needs) (λ c. search needs) (λ c. search advances-so))
+    tie.close (tie.spec (λ c κs. search needs) (λ c κs. search needs) (λ c. search needs) (λ c. search needs) returns)

@@ -4,6 +4,9 @@ use borrow.Author.Needs.{needs}
 use Rattle.text_strings.proofs.read_quoted.Statement.{statement}
 use Rattle.text_strings.proofs.read_quoted.Tie as tie
 
+returns : tie.Need-returns
+returns c = search wholes
+
 pub read-quoted-spec : {M : Type 1} → statement M
 read-quoted-spec =
     tie.close
@@ -17,7 +20,7 @@ read-quoted-spec =
     (λ c κs. search wholes)
     (λ c. search needs)
     (λ c. search needs)
-    (λ c. search wholes)
+    returns
     (λ c. search needs)
     (λ c. search wholes)
     (λ c. search wholes))

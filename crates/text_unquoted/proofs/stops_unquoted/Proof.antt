@@ -4,12 +4,15 @@ use borrow.Author.Needs.{needs}
 use Rattle.text_unquoted.proofs.stops_unquoted.Statement.{statement}
 use Rattle.text_unquoted.proofs.stops_unquoted.Tie as tie
 
+returns : tie.Need-returns
+returns c = search stops
+
 pub stops-unquoted-spec : {M : Type 1} → statement M
 stops-unquoted-spec =
     tie.close
     (tie.spec
     (λ c κs. search needs)
-    (λ c. search stops)
+    returns
     (λ c κs. search needs)
     (λ c. search stops)
     (λ c κs. search needs)

@@ -14,6 +14,9 @@ Inv-loop s p₀ p = Going unquotedEnd s (p₀ .at .0) p
 abbrev μ-loop : tie.MeasureT-loop
 μ-loop s p₀ p = length s - p .at .0
 
+returns : tie.Need-returns Inv-loop μ-loop
+returns c = search unquoted-loop
+
 pub unquoted-end-spec : {M : Type 1} → statement M
 unquoted-end-spec =
     tie.close
@@ -22,7 +25,7 @@ unquoted-end-spec =
     μ-loop
     (λ c. search unquoted-loop)
     (λ c κs. search needs)
-    (λ c. search unquoted-loop)
+    returns
     (λ c κs. search needs)
     (λ c. search unquoted-loop)
     (λ c. search unquoted-loop))

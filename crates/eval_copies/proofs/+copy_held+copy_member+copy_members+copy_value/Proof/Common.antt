@@ -14,13 +14,13 @@ use Rattle.eval_copies.proofs.+copy_held+copy_member+copy_members+copy_
 use Rattle.eval_copies.proofs.copy_value.Reads as copy-value
 use Rattle.eval_copies.proofs.copy_value.Kinds as copy-value-kinds
 use Rattle.eval_copies.proofs.+copy_held+copy_member+copy_members+copy_value.Lts-copy_value as copy-value-lts
-use Rattle.eval_records.proofs.copy_key.Reads as copy-key-reads
-use Rattle.eval_records.proofs.copy_plain.Reads as copy-plain-reads
-use Rattle.eval_records.proofs.copy_word.Reads as copy-word-reads
+use Rattle.eval_record_copies.proofs.copy_key.Reads as copy-key-reads
+use Rattle.eval_record_copies.proofs.copy_plain.Reads as copy-plain-reads
+use Rattle.eval_record_copies.proofs.copy_word.Reads as copy-word-reads
 use Rattle.eval_copies.proofs.deepest.Reads as deepest-reads
 use Rattle.eval_records.proofs.kind_at.Reads as kind-at-reads
 use Rattle.eval_copies.proofs.one_deeper.Reads as one-deeper-reads
-use Rattle.eval_records.proofs.copy_head.Reads as copy-head-reads
+use Rattle.eval_record_copies.proofs.copy_head.Reads as copy-head-reads
 use Rattle.sheet_forms.proofs.shape_of.Reads as shape-of-reads
 
 -- what is left to show, a declaration for each need

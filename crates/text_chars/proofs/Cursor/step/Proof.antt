@@ -4,11 +4,14 @@ use borrow.Author.Needs.{needs}
 use Rattle.text_chars.proofs.Cursor.step.Statement.{statement}
 use Rattle.text_chars.proofs.Cursor.step.Tie as tie
 
+returns : tie.Need-returns
+returns c = search steps
+
 pub step-spec : {M : Type 1} → statement M
 step-spec =
     tie.close
     (tie.spec
     (λ c κs. search needs)
     (λ c κs. search needs)
-    (λ c. search steps)
+    returns
     (λ c. search steps))

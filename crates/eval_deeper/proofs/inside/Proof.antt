@@ -1,0 +1,17 @@
+-- laws: insides
+use Rattle.eval_deeper.proofs.Depths.{insides}
+use borrow.Author.Needs.{needs}
+use Rattle.eval_deeper.proofs.inside.Statement.{statement}
+use Rattle.eval_deeper.proofs.inside.Tie as tie
+
+pub inside-spec : {M : Type 1} → statement M
+inside-spec =
+    tie.close
+    (tie.spec
+    (λ c κs. search needs)
+    (λ c. search needs)
+    (λ c. search needs)
+    (λ c κs. search needs)
+    (λ c. search insides)
+    (λ c. search needs)
+    (λ c. search insides))

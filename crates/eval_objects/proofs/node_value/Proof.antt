@@ -1,0 +1,14 @@
+-- laws: node-laws
+use Rattle.eval_value_laws.specs.Holders.{node-laws}
+use borrow.Author.Needs.{needs}
+use Rattle.eval_objects.proofs.node_value.Statement.{statement}
+use Rattle.eval_objects.proofs.node_value.Tie as tie
+
+pub node-value-spec : {M : Type 1} → statement M
+node-value-spec =
+    tie.close
+    (tie.spec
+    (λ c κs. search needs)
+    (λ c. search needs)
+    (λ c. search needs)
+    (λ c. search node-laws))

@@ -1,0 +1,17 @@
+-- laws: object-laws
+use Rattle.eval_value_laws.specs.Holders.{object-laws, object-asked}
+use borrow.Author.Needs.{needs}
+use Rattle.eval_objects.proofs.object_value.Statement.{statement}
+use Rattle.eval_objects.proofs.object_value.Tie as tie
+
+pub object-value-spec : {M : Type 1} → statement M
+object-value-spec =
+    tie.close
+    (tie.spec
+    (λ c κs. search needs)
+    (λ c κs. search needs)
+    (λ c κs. (object-asked (c .before .before .before .before .before .before .before .before .before .before .before .pre .0) (c .before .before .before .before .before .members-from .ensures) (c .before .before .behind-head .ensures), c .before .before .before .before .before .members-from .ensures .low))
+    (λ c κs. search needs)
+    (λ c. search needs)
+    (λ c. search needs)
+    (λ c. search object-laws))

@@ -1,0 +1,20 @@
+-- laws: outcome-laws
+use Rattle.eval_sizes.proofs.Sizing.{outcome-laws}
+use borrow.Author.Needs.{needs}
+use Rattle.eval_sizes.proofs.outcome_of.Statement.{statement}
+use Rattle.eval_sizes.proofs.outcome_of.Tie as tie
+
+pub outcome-of-spec : {M : Type 1} → statement M
+outcome-of-spec =
+    tie.close
+    (tie.spec
+    (λ c. search needs)
+    (λ c κs. search needs)
+    (λ c. search outcome-laws)
+    (λ c κs. search needs)
+    (λ c. search needs)
+    (λ c. search needs)
+    (λ c κs. search needs)
+    (λ c. search outcome-laws)
+    (λ c. search outcome-laws)
+    (λ c. search outcome-laws))

@@ -1,0 +1,4 @@
+pub mod Contracts
+pub mod Tasks
+pub mod Settled
+pub mod Ends

@@ -1,0 +1,5 @@
+-- What is proved of the definitions of characters: choices, characters passed over, the places of a text, ASCII.
+pub mod Choices
+pub mod Skips
+pub mod Places
+pub mod Ascii

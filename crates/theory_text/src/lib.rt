@@ -1,0 +1,1 @@
+// What is proved of characters and of places in a text. No code.
