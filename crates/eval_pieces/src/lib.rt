@@ -106,6 +106,8 @@ pub fn piece_of(
     if number_at(table, WIDTH * i) < PIECE + REQUIRED {
         return literal(table, work, base, i);
     }
-    let records = &bytes[doc_items::TRAIL..doc_items::BYTES];
+    let from = doc_items::TRAIL;
+    let end = from + limits::ROOM;
+    let records = &bytes[from..end];
     reference(table, records, bytes, env, work, base, item, i)
 }

@@ -17,6 +17,7 @@ piece-of-spec =
     (λ c. search needs)
     (λ c. search needs)
     (λ c. search needs)
+    (λ c. search needs)
     (λ c κs. (search lending, search lending))
     (λ c. search needs)
     (λ c. search pieces))
