@@ -1,4 +1,4 @@
--- What the check of a trail promises.
+-- What the check of a sheet promises, and that of its trail.
 use mathlib.Core.Path.{_≡_}
 use Prim.Native.Nat.{ℕ, _+_, _≤_, _<_}
 use mathlib.Core.List.{List, []}
@@ -11,8 +11,10 @@ use Rattle.rules.specs.Environment.{Variable, entriesOf, textOf}
 use Rattle.rules.specs.Tree.{rootNode, heightOf}
 use Rattle.rules.specs.Values.{Answer}
 use Rattle.rules.specs.Unresolved.{Unresolved}
-use Rattle.rules.specs.Documents.{Setting, ruleOf, countOf}
+use Rattle.rules.specs.Documents.{Setting, valid, ruleOf, countOf}
 use Rattle.rules.specs.Sheet.{trailSize}
+use Rattle.rules.specs.Jobs.{verdict}
+use Rattle.text_chars.specs.declared.DocAt.{DocAt}
 use Rattle.read_numbering.specs.Contracts.{AsRead}
 use Rattle.eval_writer.specs.Contracts.{Room}
 use Rattle.eval_records.specs.Contracts.{mostBytes}
@@ -25,6 +27,8 @@ use Rattle.eval_sizes.specs.declared.Outcome.{Outcome}
 use Rattle.check_entries.specs.Contracts.{Right, Open, Refuted, CheckedBy, Further}
 use Rattle.check_entries.specs.declared.Reached.{Reached}
 use Rattle.check_entries.specs.declared.Checked.{Checked}
+use Rattle.job_resolved.specs.Answers.{verdictOf}
+use Rattle.job_resolved.specs.declared.Verdict.{Verdict}
 
 -- ---- what is known of a document throughout
 
@@ -94,3 +98,14 @@ BehindBy T B E w room count trail text Checked.Wrong = Unit {0}
 pub record TrailIs (E : List ℕ) (count : ℕ) (trail text T T′ B B′ w′ room′ : List ℕ) (r : Checked) : Type 0 where
   pub is : (x : Setting) (key : ℕ → Text) (items : ℕ) → Known x E → count ≡ countOf x → State x key items T B [] → TrailBy x key items T′ B′ trail text r
   pub behind : BehindBy T′ B′ E w′ room′ count trail text r
+
+-- ---- the sheet
+
+pub record SheetAsked (T B E w room : List ℕ) (count : ℕ) (trail text : List ℕ) : Type 0 where
+  pub lent : TrailAsked T B E w room count trail text
+
+-- of a document that was read the answer is the rules'
+pub record SheetIs (E : List ℕ) (count : ℕ) (trail table text T B : List ℕ) (v : Verdict) : Type 0 where
+  pub is : (x : Setting) (key : ℕ → Text) (items : ℕ) → Known x E → count ≡ countOf x → State x key items T B []
+      → verdictOf v ≡ verdict trail table text (valid x)
+  pub refusal : (number : ℕ) (place : DocAt) → v ≡ Verdict.Refused number place → 1 ≤ number

@@ -1,17 +1,22 @@
-// The entries of a lent trail, one after another: each is evaluated against those that were found right before it.
-// Computes: Checking (entriesFrom)
+// A lent sheet held against a document in memory: the entries of its trail one after another, each evaluated against those that were found
+// right before it, and then its table.
+// Computes: Checking (entriesFrom, accepted)
 use check_entries::Checked;
 use check_entries::Next;
 use check_entries::Reached;
 use check_entries::check_answer;
 use check_entries::check_undefined;
 use check_entries::next_number;
+use codes::refusals;
 use eval_index::item_of;
 use eval_sizes::Outcome;
 use eval_unresolved::unresolved_value;
+use job_resolved::Verdict;
+use job_root::check_root;
+use text_chars::DocAt;
 use text_chars::RecAt;
 use text_chars::TextAt;
-ghost use Rattle.check_trails.specs.Contracts.{CaseAsked, CaseIs, EntryAsked, EntryIs, TrailAsked, TrailIs};
+ghost use Rattle.check_trails.specs.Contracts.{CaseAsked, CaseIs, EntryAsked, EntryIs, TrailAsked, TrailIs, SheetAsked, SheetIs};
 
 // The outcome of question b held against its entry; a value of it is in the room.
 fn check_outcome(
@@ -66,8 +71,8 @@ fn check_entry(
     }
 }
 
-/// All entries of a trail, in a document of so many unresolved values.
-pub fn check_trail(
+// All entries of a trail, in a document of so many unresolved values.
+fn check_trail(
     table: &mut [u16],
     bytes: &mut [u8],
     environment: &[u8],
@@ -114,4 +119,35 @@ pub fn check_trail(
         used: RecAt(used),
         text: TextAt(texts),
     })
+}
+
+/// A sheet against a document of so many unresolved values that stands in memory, with nothing answered yet.
+pub fn check_sheet(
+    numbers: &mut [u16],
+    bytes: &mut [u8],
+    environment: &[u8],
+    work: &mut [u16],
+    room: &mut [u8],
+    count: usize,
+    trail: &[u8],
+    table: &[u8],
+    text: &[u8],
+) -> Verdict
+    requires { ⌜ SheetAsked (now numbers) (now bytes) (now environment) (now work) (now room) count (now trail) (now text) ⌝ }
+    ensures { λ r. ⌜ SheetIs (now (environment .entry)) count (now (trail .entry)) (now (table .entry)) (now (text .entry))
+        (now (numbers .entry)) (now (bytes .entry)) r ⌝ }
+{
+    match check_trail(numbers, bytes, environment, work, room, count, trail, text) {
+        Checked::Wrong => {}
+        Checked::On(at) => {
+            let texts = at.text;
+            if check_root(numbers, bytes, work, room, texts, table, text) {
+                return Verdict::Accepted;
+            }
+        }
+    }
+    Verdict::Refused {
+        number: refusals::NOT_ACCEPTED,
+        place: DocAt(0),
+    }
 }

@@ -31,10 +31,9 @@ use Rattle.eval_joins.specs.declared.Joined.{Joined}
 use Rattle.eval_stack.specs.Model.{entries, Work}
 use Rattle.eval_tables.specs.Keys.{KeyNumber, EachKey}
 use Rattle.eval_tables.specs.Finished.{Memory}
-use Rattle.eval_state.specs.Memories.{jobBytes, answersOf}
+use Rattle.eval_state.specs.Memories.{jobBytes, answersOf, mergeRoom}
 use Rattle.eval_state.specs.State.{State}
 use Rattle.eval_value_laws.specs.Contracts.{Left}
-use Rattle.eval_merge.specs.Contracts.{mergeRoom}
 use Rattle.eval_join_steps.specs.Distinct.{DistinctJoin}
 use Rattle.eval_join_steps.specs.declared.JoinStep.{JoinStep}
 

@@ -136,176 +136,177 @@ take-left {w = w} {w′ = w′} {top = top} k = record { below = same-below top 
 
 -- ---- the places where it returns
 
-module _ {T B w : List ℕ} {p top : ℕ} where
+module _ {T B w : List ℕ} {p top : ℕ} (a : KeyAsked T B w p top) where
+  abbrev G : Ground T B
+  G = a .ground
+
+  abbrev M : Memory
+  M = memoryOf (a .ground)
+
+  -- the key
+  abbrev its : Text
+  its = a .ground .key (keysAt (keyNumberOf M) w p)
+
+  tables : Tables M (lookup (G .S))
+  tables = used-tables (a .sound .state)
+
+  keys-are : a .ks ≡ its ∷ behind a
+  keys-are = a .at .is ∙ keys-first M w p top (a .inside) (a .leads)
+
+  -- no answer is missing
+  done : (c : Counted) → keyIn (a .os) its (lookup (G .S)) ≡ value c → (readyC (G .t) (a .os) its (G .S) (G .n) ≡ answer c (G .S) (G .n)) × NumberedCounted (questionsOf (G .t)) c
+  done c e =
+      ready-done (G .t) (a .os) its (G .S) (G .n) (a .sound .state .document .read) (a .at .numbered) (G .S) (G .n)
+      (ready-starts (G .t) (a .os) its (G .S) (G .n) (a .sound .kept)) c e
+
+  counts : (c : Counted) → keyIn (a .os) its (lookup (G .S)) ≡ value c → (levels : ℕ)
+      → settleKeysC (G .t) levels (a .os) (a .ks) (G .S) (G .n)
+      ≡ after (countedBy (workC (G .t)) (questionsOf (G .t)) (levelAt (workC (G .t)) (questionsOf (G .t)) levels) c (G .S) (G .n))
+      (λ _ S′ n′. settleKeysC (G .t) levels (a .os) (behind a) S′ n′)
+  counts c e levels =
+      ap (λ (ks : List Text). settleKeysC (G .t) levels (a .os) ks (G .S) (G .n)) keys-are
+      ∙ counted (G .t) levels (a .os) its (behind a) (G .S) (G .n) c (done c e .0)
+
   module _ {w′ : List ℕ} {tk : Taken} (k : TakeIs T (take maxRoom (drop trailAt B)) p top w w′ tk) where
-    module _ (a : KeyAsked T B w p top) where
-      abbrev G : Ground T B
-      G = a .ground
+    shown : TakenAs M (Merging M (lookup (G .S)) tables top w′) (keyIn (a .os) its (lookup (G .S))) tk
+    unfolding keyIn
+    shown =
+        let f : Roomy (lookup (G .S)) settlingRoom (a .at .base) (a .os) = lasting-now (a .sound) (a .at .fits) in
+        let f′ : Roomy (lookup (G .S)) entries (a .at .base) (a .os) = omega arith in
+        taken-as M (Merging M (lookup (G .S)) tables top w′) tk (keyIn (a .os) its (lookup (G .S)))
+        (take-shows M (lookup (G .S)) tables (a .at .shown) f′ (a .at .low) (a .inside) (a .leads) k)
 
-      abbrev M : Memory
-      M = memoryOf (a .ground)
+-- The bytes are given: antt would compute the long slice to see that they follow from it.
+module _ {T : List ℕ} (B : List ℕ) {w w′ : List ℕ} {p top : ℕ} {tk : Taken} (k : TakeIs T (take maxRoom (drop trailAt B)) p top w w′ tk) where
+  pub key-nothing : tk ≡ Taken.Nothing → KeyIs T B p top w w′ (record { need = Need.Nothing; next = p + 1 })
+  key-nothing e = record {
+    left = take-left k;
+    is = λ a.
+        let z : keyIn (a .os) (its a) (lookup (a .ground .S)) ≡ value nothing = rw e at (shown a k) in
+        record {
+          inner = elements no-elements;
+          shows = tt;
+          left = keys (a .os) (behind a);
+          at = moved a (take-left k);
+          is = counts a nothing z;
+          on = omega arith;
+        };
+  }
 
-      -- the key
-      abbrev its : Text
-      its = a .ground .key (keysAt (keyNumberOf M) w p)
-
-      tables : Tables M (lookup (G .S))
-      tables = used-tables (a .sound .state)
-
-      shown : TakenAs M (Merging M (lookup (G .S)) tables top w′) (keyIn (a .os) its (lookup (G .S))) tk
-      unfolding keyIn
-      shown =
-          let f : Roomy (lookup (G .S)) settlingRoom (a .at .base) (a .os) = lasting-now (a .sound) (a .at .fits) in
-          let f′ : Roomy (lookup (G .S)) entries (a .at .base) (a .os) = omega arith in
-          taken-as M (Merging M (lookup (G .S)) tables top w′) tk (keyIn (a .os) its (lookup (G .S)))
-          (take-shows M (lookup (G .S)) tables (a .at .shown) f′ (a .at .low) (a .inside) (a .leads) k)
-
-      keys-are : a .ks ≡ its ∷ behind a
-      keys-are = a .at .is ∙ keys-first M w p top (a .inside) (a .leads)
-
-      -- no answer is missing
-      done : (c : Counted) → keyIn (a .os) its (lookup (G .S)) ≡ value c → (readyC (G .t) (a .os) its (G .S) (G .n) ≡ answer c (G .S) (G .n)) × NumberedCounted (questionsOf (G .t)) c
-      done c e =
-          ready-done (G .t) (a .os) its (G .S) (G .n) (a .sound .state .document .read) (a .at .numbered) (G .S) (G .n)
-          (ready-starts (G .t) (a .os) its (G .S) (G .n) (a .sound .kept)) c e
-
-      counts : (c : Counted) → keyIn (a .os) its (lookup (G .S)) ≡ value c → (levels : ℕ)
-          → settleKeysC (G .t) levels (a .os) (a .ks) (G .S) (G .n)
-          ≡ after (countedBy (workC (G .t)) (questionsOf (G .t)) (levelAt (workC (G .t)) (questionsOf (G .t)) levels) c (G .S) (G .n))
-          (λ _ S′ n′. settleKeysC (G .t) levels (a .os) (behind a) S′ n′)
-      counts c e levels =
-          ap (λ (ks : List Text). settleKeysC (G .t) levels (a .os) ks (G .S) (G .n)) keys-are
-          ∙ counted (G .t) levels (a .os) its (behind a) (G .S) (G .n) c (done c e .0)
-
-    pub key-nothing : tk ≡ Taken.Nothing → KeyIs T B p top w w′ (record { need = Need.Nothing; next = p + 1 })
-    key-nothing e = record {
-      left = take-left k;
-      is = λ a.
-          let z : keyIn (a .os) (its a) (lookup (a .ground .S)) ≡ value nothing = rw e at (shown a) in
-          record {
-            inner = elements no-elements;
-            shows = tt;
-            left = keys (a .os) (behind a);
-            at = moved a (take-left k);
-            is = counts a nothing z;
-            on = omega arith;
+  -- an answer is missing; once it is there, the key is looked at again
+  pub key-needs : {b : ℕ} → tk ≡ Taken.Needs b → KeyIs T B p top w w′ (record { need = Need.Answer b; next = p })
+  key-needs {b} e = record {
+    left = take-left k;
+    is = λ a.
+        let g = a .ground in
+        let z : keyIn (a .os) (its a) (lookup (g .S)) ≡ missing b = rw e at (shown a k) in
+        let read = a .sound .state .document .read in
+        let y : readyC (g .t) (a .os) (its a) (g .S) (g .n) ≡ after (workC (g .t) b (g .S) (g .n)) (λ _ S′ n′. readyC (g .t) (a .os) (its a) S′ n′) =
+        ready-again (g .t) read (a .os) (a .at .numbered) (its a) (g .S) (g .n) (a .sound .kept) ∙ rw z in
+        record {
+          inner = elements no-elements;
+          shows = ready-missing (g .t) read (a .os) (a .at .numbered) (its a) (g .S) (g .n) (a .sound .kept) b z;
+          left = keys (a .os) (its a ∷ behind a);
+          at = record {
+            base = a .at .base;
+            low = a .at .low;
+            high = a .at .high;
+            ends = refl;
+            shown = level-stays (M a) w′ (take-left k .below) (a .at .shown);
+            is = sym (keys-are a) ∙ a .at .is ∙ sym (keys-stay (M a) w w′ p top (take-left k .below));
+            numbered = a .at .numbered;
+            fits = a .at .fits;
           };
-    }
+          is = λ levels.
+              ap (λ (ks : List Text). settleKeysC (g .t) levels (a .os) ks (g .S) (g .n)) (keys-are a)
+              ∙ again (g .t) levels (a .os) (its a) (behind a) (g .S) (g .n) b y;
+          on = omega arith;
+        };
+  }
 
-    -- an answer is missing; once it is there, the key is looked at again
-    pub key-needs : {b : ℕ} → tk ≡ Taken.Needs b → KeyIs T B p top w w′ (record { need = Need.Answer b; next = p })
-    key-needs {b} e = record {
-      left = take-left k;
+  -- one layer
+  module _ {c : ℕ} (e : tk ≡ Taken.One c) where
+    one-of : (a : KeyAsked T B w p top) → TakenAs (M a) (Merging (M a) (lookup (a .ground .S)) (tables a) top w′) (keyIn (a .os) (its a) (lookup (a .ground .S))) (Taken.One c)
+    one-of a = rw e at (shown a k)
+
+    abbrev one-asked : KeyAsked T B w p top → LayerAsked T B w′ top c
+    one-asked a =
+        let z = one-of a in
+        record {
+          ground = a .ground;
+          sound = a .sound;
+          work = omega (arith, a .work, k .is .len);
+          used = key-low a;
+          l = z .0;
+          shown = z .2;
+          numbered = done a (one (z .0)) (z .1) .1;
+          fits = one-room (a .ground .t) (a .ground .S) (a .os) (its a) (a .at .base) (a .at .shown .objects) (a .at .fits) (z .0) (z .1) top (level-top (M a) (a .at .shown));
+        }
+
+    pub key-one : {w″ : List ℕ} {r : Need} → LayerIs T B top c w′ w″ r → KeyIs T B p top w w″ (record { need = r; next = p + 1 })
+    key-one N = record {
+      left = left-then (take-left k) (N .left);
       is = λ a.
           let g = a .ground in
-          let z : keyIn (a .os) (its a) (lookup (g .S)) ≡ missing b = rw e at (shown a) in
-          let read = a .sound .state .document .read in
-          let y : readyC (g .t) (a .os) (its a) (g .S) (g .n) ≡ after (workC (g .t) b (g .S) (g .n)) (λ _ S′ n′. readyC (g .t) (a .os) (its a) S′ n′) =
-          ready-again (g .t) read (a .os) (a .at .numbered) (its a) (g .S) (g .n) (a .sound .kept) ∙ rw z in
+          let z = one-of a in
+          let x = N .is (one-asked a) in
           record {
-            inner = elements no-elements;
-            shows = ready-missing (g .t) read (a .os) (a .at .numbered) (its a) (g .S) (g .n) (a .sound .kept) b z;
-            left = keys (a .os) (its a ∷ behind a);
-            at = record {
-              base = a .at .base;
-              low = a .at .low;
-              high = a .at .high;
-              ends = refl;
-              shown = level-stays (M a) w′ (take-left k .below) (a .at .shown);
-              is = sym (keys-are a) ∙ a .at .is ∙ sym (keys-stay (M a) w w′ p top (take-left k .below));
-              numbered = a .at .numbered;
-              fits = a .at .fits;
-            };
+            inner = x .inner;
+            shows = x .shows;
+            left = keys (a .os) (behind a);
+            at = moved a (left-then (take-left k) (N .left));
             is = λ levels.
-                ap (λ (ks : List Text). settleKeysC (g .t) levels (a .os) ks (g .S) (g .n)) (keys-are a)
-                ∙ again (g .t) levels (a .os) (its a) (behind a) (g .S) (g .n) b y;
+                counts a (one (z .0)) (z .1) levels
+                ∙ ap (λ (q : Ended Refusal Answer). after q (λ _ S′ n′. settleKeysC (g .t) levels (a .os) (behind a) S′ n′)) (x .is levels);
             on = omega arith;
           };
     }
 
-    -- one layer
-    module _ {c : ℕ} (e : tk ≡ Taken.One c) where
-      one-of : (a : KeyAsked T B w p top) → TakenAs (M a) (Merging (M a) (lookup (a .ground .S)) (tables a) top w′) (keyIn (a .os) (its a) (lookup (a .ground .S))) (Taken.One c)
-      one-of a = rw e at (shown a)
+  -- objects that merge
+  module _ {hi : ℕ} (e : tk ≡ Taken.Merged hi) where
+    merged-of : (a : KeyAsked T B w p top) → TakenAs (M a) (Merging (M a) (lookup (a .ground .S)) (tables a) top w′) (keyIn (a .os) (its a) (lookup (a .ground .S))) (Taken.Merged hi)
+    merged-of a = rw e at (shown a k)
 
-      abbrev one-asked : KeyAsked T B w p top → LayerAsked T B w′ top c
-      one-asked a =
-          let z = one-of a in
-          record {
-            ground = a .ground;
-            sound = a .sound;
-            work = omega (arith, a .work, k .is .len);
-            used = key-low a;
-            l = z .0;
-            shown = z .2;
-            numbered = done a (one (z .0)) (z .1) .1;
-            fits = one-room (a .ground .t) (a .ground .S) (a .os) (its a) (a .at .base) (a .at .shown .objects) (a .at .fits) (z .0) (z .1) top (level-top (M a) (a .at .shown));
-          }
+    abbrev merged-asked : KeyAsked T B w p top → ObjectsAsked T B w′ top hi
+    merged-asked a =
+        let z = merged-of a in
+        let o = z .2 .0 in
+        record {
+          ground = a .ground;
+          sound = a .sound;
+          work = omega (arith, a .work, k .is .len);
+          os = z .0;
+          shown = o;
+          numbered = done a (merged (z .0)) (z .1) .1;
+          fits = merged-room (a .ground .t) (a .ground .S) (a .os) (its a) (a .at .base) (a .at .shown .objects) (a .at .fits) (z .0) (o .objects) (z .1) hi
+              (objects-size (M a) o ∙ ap (λ (i : ℕ). i + length (z .0)) (level-top (M a) (a .at .shown)));
+        }
 
-      pub key-one : {w″ : List ℕ} {r : Need} → LayerIs T B top c w′ w″ r → KeyIs T B p top w w″ (record { need = r; next = p + 1 })
-      key-one N = record {
-        left = left-then (take-left k) (N .left);
-        is = λ a.
-            let g = a .ground in
-            let z = one-of a in
-            let x = N .is (one-asked a) in
-            record {
-              inner = x .inner;
-              shows = x .shows;
-              left = keys (a .os) (behind a);
-              at = moved a (left-then (take-left k) (N .left));
-              is = λ levels.
-                  counts a (one (z .0)) (z .1) levels
-                  ∙ ap (λ (q : Ended Refusal Answer). after q (λ _ S′ n′. settleKeysC (g .t) levels (a .os) (behind a) S′ n′)) (x .is levels);
-              on = omega arith;
-            };
-      }
-
-    -- objects that merge
-    module _ {hi : ℕ} (e : tk ≡ Taken.Merged hi) where
-      merged-of : (a : KeyAsked T B w p top) → TakenAs (M a) (Merging (M a) (lookup (a .ground .S)) (tables a) top w′) (keyIn (a .os) (its a) (lookup (a .ground .S))) (Taken.Merged hi)
-      merged-of a = rw e at (shown a)
-
-      abbrev merged-asked : KeyAsked T B w p top → ObjectsAsked T B w′ top hi
-      merged-asked a =
+    pub key-merged : {w″ : List ℕ} {r : Need} → ObjectsIs T B top hi w′ w″ r → KeyIs T B p top w w″ (record { need = r; next = p + 1 })
+    key-merged N = record {
+      left = left-then (take-left k) (N .left);
+      is = λ a.
+          let g = a .ground in
           let z = merged-of a in
-          let o = z .2 .0 in
+          let x = N .is (merged-asked a) in
           record {
-            ground = a .ground;
-            sound = a .sound;
-            work = omega (arith, a .work, k .is .len);
-            os = z .0;
-            shown = o;
-            numbered = done a (merged (z .0)) (z .1) .1;
-            fits = merged-room (a .ground .t) (a .ground .S) (a .os) (its a) (a .at .base) (a .at .shown .objects) (a .at .fits) (z .0) (o .objects) (z .1) hi
-                (objects-size (M a) o ∙ ap (λ (i : ℕ). i + length (z .0)) (level-top (M a) (a .at .shown)));
-          }
-
-      pub key-merged : {w″ : List ℕ} {r : Need} → ObjectsIs T B top hi w′ w″ r → KeyIs T B p top w w″ (record { need = r; next = p + 1 })
-      key-merged N = record {
-        left = left-then (take-left k) (N .left);
-        is = λ a.
-            let g = a .ground in
-            let z = merged-of a in
-            let x = N .is (merged-asked a) in
-            record {
-              inner = x .inner;
-              shows = x .shows;
-              left = keys (a .os) (behind a);
-              at = moved a (left-then (take-left k) (N .left));
-              is = λ levels.
-                  counts a (merged (z .0)) (z .1) levels
-                  ∙ ap (λ (q : Ended Refusal Answer). after q (λ _ S′ n′. settleKeysC (g .t) levels (a .os) (behind a) S′ n′)) (x .is levels);
-              on = omega arith;
-            };
-      }
+            inner = x .inner;
+            shows = x .shows;
+            left = keys (a .os) (behind a);
+            at = moved a (left-then (take-left k) (N .left));
+            is = λ levels.
+                counts a (merged (z .0)) (z .1) levels
+                ∙ ap (λ (q : Ended Refusal Answer). after q (λ _ S′ n′. settleKeysC (g .t) levels (a .os) (behind a) S′ n′)) (x .is levels);
+            on = omega arith;
+          };
+    }
 
 -- what is asked of what the members come to
 module _ {T B w : List ℕ} {p top : ℕ} (a : KeyAsked T B w p top) {w′ : List ℕ} {tk : Taken} (k : TakeIs T (take maxRoom (drop trailAt B)) p top w w′ tk) where
   pub key-layer : {c : ℕ} → tk ≡ Taken.One c → LayerAsked T B w′ top c
-  key-layer e = one-asked k e a
+  key-layer e = one-asked B k e a
 
   pub key-objects : {hi : ℕ} → tk ≡ Taken.Merged hi → ObjectsAsked T B w′ top hi
-  key-objects e = merged-asked k e a
+  key-objects e = merged-asked B k e a
 
 pub ruleset key-laws = (key-place, key-top, key-work, key-source, key-nothing, key-needs, key-layer, key-one, key-objects, key-merged)

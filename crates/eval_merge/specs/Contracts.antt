@@ -18,12 +18,8 @@ use Rattle.eval_stack.specs.Model.{entries, Work}
 use Rattle.eval_stack.specs.Contracts.{PushIs}
 use Rattle.eval_tables.specs.Keys.{KeyNumber, EachKey}
 use Rattle.eval_tables.specs.Finished.{Stored, SettledAt}
-use Rattle.eval_state.specs.Memories.{jobBytes, secondAt, pairOf}
+use Rattle.eval_state.specs.Memories.{jobBytes, secondAt, mergeRoom, pairOf}
 use Rattle.eval_value_laws.specs.Contracts.{Left}
-
--- what two objects within their size take on the stack
-abbrev pub mergeRoom : ℕ
-mergeRoom = 10924
 
 pub record MergeAsked (B w : List ℕ) (base : ℕ) (room : List ℕ) : Type 0 where
   pub whole : Room room

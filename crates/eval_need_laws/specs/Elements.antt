@@ -123,156 +123,157 @@ module _ {T B w : List ℕ} {p end top : ℕ} where
   pub element-source : ElementAsked T B w p end top → (src : Source) → src .rec .0 ≡ trailAt → SourceIn B src
   element-source a src e = record { bytes = a .sound .bytes; records = omega (arith, a .sound .state .document .bytes) }
 
-  module _ {v : Member} (m : MemberIs T (take maxRoom (drop trailAt B)) p end v) where
-    abbrev M₀ : ElementAsked T B w p end top → Memory
-    M₀ a = usedOf (a .ground .key) (a .ground .items) (a .at .T₀) (a .at .B₀) (a .at .S₀)
+  abbrev M₀ : ElementAsked T B w p end top → Memory
+  M₀ a = usedOf (a .ground .key) (a .ground .items) (a .at .T₀) (a .at .B₀) (a .at .S₀)
 
-    -- what is met
-    met : (a : ElementAsked T B w p end top) → ElementStep (M₀ a) end (a .es) v
-    met a =
-        let s = used-tables (a .at .state) .stored in
-        rw (m .is ∙ member-same (M₀ a .records) (take maxRoom (drop trailAt B)) (a .at .later .document) p end (omega (arith, a .at .shown .upto, s .few)))
-        (element-met (M₀ a) s p end (a .es) (a .at .shown))
+  -- those from a place on
+  abbrev Fits : ElementAsked T B w p end top → Elements → Type 0
+  Fits a es = Lasting (a .ground .t) (a .ground .S) (λ (k : ℕ → Option Answer). top + 2 * weightOfElements k es ≤ settlingRoom)
 
-    -- those from a place on
-    abbrev Fits : ElementAsked T B w p end top → Elements → Type 0
-    Fits a es = Lasting (a .ground .t) (a .ground .S) (λ (k : ℕ → Option Answer). top + 2 * weightOfElements k es ≤ settlingRoom)
+  abbrev from : (a : ElementAsked T B w p end top) (x : List ℕ) (q : ℕ) (es : Elements) → ElementsShown (M₀ a) q end es
+      → AllElements (InRange (questionsOf (a .ground .t))) es → Fits a es → ElementsFrom (a .ground) x q end top es
+  from a x q es s n f = record {
+    used = a .at .used;
+    T₀ = a .at .T₀;
+    B₀ = a .at .B₀;
+    S₀ = a .at .S₀;
+    state = a .at .state;
+    later = a .at .later;
+    shown = s;
+    numbered = n;
+    fits = f;
+  }
 
-    abbrev from : (a : ElementAsked T B w p end top) (x : List ℕ) (q : ℕ) (es : Elements) → ElementsShown (M₀ a) q end es
-        → AllElements (InRange (questionsOf (a .ground .t))) es → Fits a es → ElementsFrom (a .ground) x q end top es
-    from a x q es s n f = record {
-      used = a .at .used;
-      T₀ = a .at .T₀;
-      B₀ = a .at .B₀;
-      S₀ = a .at .S₀;
-      state = a .at .state;
-      later = a .at .later;
-      shown = s;
-      numbered = n;
-      fits = f;
-    }
+-- The bytes are given: antt would compute the long slice to see that they follow from it.
+module _ {T : List ℕ} (B : List ℕ) {p end : ℕ} {v : Member} (m : MemberIs T (take maxRoom (drop trailAt B)) p end v) {w : List ℕ} {top : ℕ} where
+  -- what is met
+  met : (a : ElementAsked T B w p end top) → ElementStep (M₀ a) end (a .es) v
+  met a =
+      let s = used-tables (a .at .state) .stored in
+      rw (m .is ∙ member-same (M₀ a .records) (take maxRoom (drop trailAt B)) (a .at .later .document) p end (omega (arith, a .at .shown .upto, s .few)))
+      (element-met (M₀ a) s p end (a .es) (a .at .shown))
 
-    pub element-end : v ≡ Member.End → ElementIs T B p end top w w (record { need = Need.Nothing; next = end })
-    element-end e = record {
-      left = left-all;
-      is = λ a.
-          let z : a .es ≡ no-elements = rw e at (met a) in
-          let g = a .ground in
-          record {
-            inner = elements no-elements;
-            shows = tt;
-            left = elements no-elements;
-            at = from a w end no-elements (record { upto = a .at .shown .upto; at = (omega arith, λ k i j. absurd (omega arith)) }) tt (subst (Fits a) z (a .at .fits));
-            is = λ levels. ap (λ (es : Elements). settleElementsC (g .t) levels es (g .S) (g .n)) z;
-            on = omega (arith, a .inside);
-          };
-    }
+  pub element-end : v ≡ Member.End → ElementIs T B p end top w w (record { need = Need.Nothing; next = end })
+  element-end e = record {
+    left = left-all;
+    is = λ a.
+        let z : a .es ≡ no-elements = rw e at (met a) in
+        let g = a .ground in
+        record {
+          inner = elements no-elements;
+          shows = tt;
+          left = elements no-elements;
+          at = from a w end no-elements (record { upto = a .at .shown .upto; at = (omega arith, λ k i j. absurd (omega arith)) }) tt (subst (Fits a) z (a .at .fits));
+          is = λ levels. ap (λ (es : Elements). settleElementsC (g .t) levels es (g .S) (g .n)) z;
+          on = omega (arith, a .inside);
+        };
+  }
 
-    pub element-seam : {q : ℕ} → v ≡ Member.Seam q → ElementIs T B p end top w w (record { need = Need.Nothing; next = q })
-    element-seam {q} e = record {
-      left = left-all;
-      is = λ a.
-          let z : ElementsShown (M₀ a) q end (a .es) = rw e at (met a) in
-          record {
-            inner = elements no-elements;
-            shows = tt;
-            left = elements (a .es);
-            at = from a w q (a .es) z (a .at .numbered) (a .at .fits);
-            is = λ levels. refl;
-            on = omega (arith, skip-less m e);
-          };
-    }
+  pub element-seam : {q : ℕ} → v ≡ Member.Seam q → ElementIs T B p end top w w (record { need = Need.Nothing; next = q })
+  element-seam {q} e = record {
+    left = left-all;
+    is = λ a.
+        let z : ElementsShown (M₀ a) q end (a .es) = rw e at (met a) in
+        record {
+          inner = elements no-elements;
+          shows = tt;
+          left = elements (a .es);
+          at = from a w q (a .es) z (a .at .numbered) (a .at .fits);
+          is = λ levels. refl;
+          on = omega (arith, skip-less m e);
+        };
+  }
 
-    module _ {i q : ℕ} (z : v ≡ Member.At i q) where
-      -- the element that is met, and those behind it
-      step : (a : ElementAsked T B w p end top) → ElementStep (M₀ a) end (a .es) (Member.At i q)
-      step a = rw z at (met a)
+  module _ {i q : ℕ} (z : v ≡ Member.At i q) where
+    -- the element that is met, and those behind it
+    step : (a : ElementAsked T B w p end top) → ElementStep (M₀ a) end (a .es) (Member.At i q)
+    step a = rw z at (met a)
 
-      numbers : (a : ElementAsked T B w p end top) → AllElements (InRange (questionsOf (a .ground .t))) (element (step a .0) (step a .1))
-      numbers a = subst (AllElements (InRange (questionsOf (a .ground .t)))) (step a .2) (a .at .numbered)
+    numbers : (a : ElementAsked T B w p end top) → AllElements (InRange (questionsOf (a .ground .t))) (element (step a .0) (step a .1))
+    numbers a = subst (AllElements (InRange (questionsOf (a .ground .t)))) (step a .2) (a .at .numbered)
 
-      weighs : (a : ElementAsked T B w p end top) (S : Trail Answer)
-          → weightOfElements (lookup S) (a .es) ≡ weightOf (lookup S) (step a .0) + weightOfElements (lookup S) (step a .1)
-      unfolding weightOf
-      weighs a S = ap (weightOfElements (lookup S)) (step a .2)
+    weighs : (a : ElementAsked T B w p end top) (S : Trail Answer)
+        → weightOfElements (lookup S) (a .es) ≡ weightOf (lookup S) (step a .0) + weightOfElements (lookup S) (step a .1)
+    unfolding weightOf
+    weighs a S = ap (weightOfElements (lookup S)) (step a .2)
 
-      behind : (a : ElementAsked T B w p end top) (x : List ℕ) → ElementsFrom (a .ground) x q end top (step a .1)
-      behind a x = from a x q (step a .1) (step a .4) (numbers a .1) (record { is = λ S j l. omega (arith, a .at .fits .is S j l, weighs a S) })
+    behind : (a : ElementAsked T B w p end top) (x : List ℕ) → ElementsFrom (a .ground) x q end top (step a .1)
+    behind a x = from a x q (step a .1) (step a .4) (numbers a .1) (record { is = λ S j l. omega (arith, a .at .fits .is S j l, weighs a S) })
 
-      unfolded : (a : ElementAsked T B w p end top) (levels : ℕ) → settleElementsC (a .ground .t) levels (a .es) (a .ground .S) (a .ground .n)
-          ≡ after (settleElementC (a .ground .t) levels (step a .0) (a .ground .S) (a .ground .n)) (λ _ S′ n′. settleElementsC (a .ground .t) levels (step a .1) S′ n′)
-      unfolded a levels =
-          ap (λ (es : Elements). settleElementsC (a .ground .t) levels es (a .ground .S) (a .ground .n)) (step a .2)
-          ∙ first (a .ground .t) levels (step a .0) (step a .1) (a .ground .S) (a .ground .n)
+    unfolded : (a : ElementAsked T B w p end top) (levels : ℕ) → settleElementsC (a .ground .t) levels (a .es) (a .ground .S) (a .ground .n)
+        ≡ after (settleElementC (a .ground .t) levels (step a .0) (a .ground .S) (a .ground .n)) (λ _ S′ n′. settleElementsC (a .ground .t) levels (step a .1) S′ n′)
+    unfolded a levels =
+        ap (λ (es : Elements). settleElementsC (a .ground .t) levels es (a .ground .S) (a .ground .n)) (step a .2)
+        ∙ first (a .ground .t) levels (step a .0) (step a .1) (a .ground .S) (a .ground .n)
 
-      -- then the others
-      abbrev onward : (a : ElementAsked T B w p end top) (levels : ℕ) → Ended Refusal Answer → Ended Refusal Answer
-      onward a levels e = after e (λ _ S′ n′. settleElementsC (a .ground .t) levels (step a .1) S′ n′)
+    -- then the others
+    abbrev onward : (a : ElementAsked T B w p end top) (levels : ℕ) → Ended Refusal Answer → Ended Refusal Answer
+    onward a levels e = after e (λ _ S′ n′. settleElementsC (a .ground .t) levels (step a .1) S′ n′)
 
-      module _ {y : Answered} (h : AnsweredIs T i y) where
-        found : (a : ElementAsked T B w p end top) → ElementAs (a .ground) top (step a .0) y
-        found a =
-            rw (h .is)
-            (element-as (a .ground) top i (step a .0) (a .sound) (written-later (a .at .later) (a .at .state .document) (step a .3)) (numbers a .0)
-            (record { is = λ S j l. omega (arith, a .at .fits .is S j l, weighs a S) }))
+    module _ {y : Answered} (h : AnsweredIs T i y) where
+      found : (a : ElementAsked T B w p end top) → ElementAs (a .ground) top (step a .0) y
+      found a =
+          rw (h .is)
+          (element-as (a .ground) top i (step a .0) (a .sound) (written-later (a .at .later) (a .at .state .document) (step a .3)) (numbers a .0)
+          (record { is = λ S j l. omega (arith, a .at .fits .is S j l, weighs a S) }))
 
-        pub element-undefined : y ≡ Answered.Undefined → ElementIs T B p end top w w (record { need = Need.Nothing; next = q })
-        element-undefined e = record {
-          left = left-all;
+      pub element-undefined : y ≡ Answered.Undefined → ElementIs T B p end top w w (record { need = Need.Nothing; next = q })
+      element-undefined e = record {
+        left = left-all;
+        is = λ a.
+            let f : ElementAs (a .ground) top (step a .0) Answered.Undefined = rw e at (found a) in
+            record {
+              inner = elements no-elements;
+              shows = tt;
+              left = elements (step a .1);
+              at = behind a w;
+              is = λ levels. unfolded a levels ∙ ap (onward a levels) (f levels);
+              on = omega (arith, one-less m z);
+            };
+      }
+
+      pub element-missing : {b : ℕ} → y ≡ Answered.Missing b → ElementIs T B p end top w w (record { need = Need.Answer b; next = q })
+      element-missing {b} e = record {
+        left = left-all;
+        is = λ a.
+            let f : ElementAs (a .ground) top (step a .0) (Answered.Missing b) = rw e at (found a) in
+            record {
+              inner = elements no-elements;
+              shows = (f .1, f .2);
+              left = elements (step a .1);
+              at = behind a w;
+              is = λ levels. unfolded a levels ∙ ap (onward a levels) (f .0 levels);
+              on = omega (arith, one-less m z);
+            };
+      }
+
+      module _ {c : ℕ} (e : y ≡ Answered.Layer c) where
+        layer : (a : ElementAsked T B w p end top) → LayerHere (a .ground) top (step a .0) c
+        layer a = rw e at (found a)
+
+        abbrev asked : ElementAsked T B w p end top → LayerAsked T B w top c
+        asked a =
+            let f = layer a in
+            record { ground = a .ground; sound = a .sound; work = a .work; used = a .at .used; l = f .l; shown = f .shown; numbered = f .numbered; fits = f .fits }
+
+        pub element-layer : {w′ : List ℕ} {r : Need} → LayerIs T B top c w w′ r → ElementIs T B p end top w w′ (record { need = r; next = q })
+        element-layer {w′} N = record {
+          left = N .left;
           is = λ a.
-              let f : ElementAs (a .ground) top (step a .0) Answered.Undefined = rw e at (found a) in
+              let x = N .is (asked a) in
               record {
-                inner = elements no-elements;
-                shows = tt;
+                inner = x .inner;
+                shows = x .shows;
                 left = elements (step a .1);
-                at = behind a w;
-                is = λ levels. unfolded a levels ∙ ap (onward a levels) (f levels);
+                at = behind a w′;
+                is = λ levels. unfolded a levels ∙ ap (onward a levels) (layer a .is levels ∙ x .is levels);
                 on = omega (arith, one-less m z);
               };
         }
-
-        pub element-missing : {b : ℕ} → y ≡ Answered.Missing b → ElementIs T B p end top w w (record { need = Need.Answer b; next = q })
-        element-missing {b} e = record {
-          left = left-all;
-          is = λ a.
-              let f : ElementAs (a .ground) top (step a .0) (Answered.Missing b) = rw e at (found a) in
-              record {
-                inner = elements no-elements;
-                shows = (f .1, f .2);
-                left = elements (step a .1);
-                at = behind a w;
-                is = λ levels. unfolded a levels ∙ ap (onward a levels) (f .0 levels);
-                on = omega (arith, one-less m z);
-              };
-        }
-
-        module _ {c : ℕ} (e : y ≡ Answered.Layer c) where
-          layer : (a : ElementAsked T B w p end top) → LayerHere (a .ground) top (step a .0) c
-          layer a = rw e at (found a)
-
-          abbrev asked : ElementAsked T B w p end top → LayerAsked T B w top c
-          asked a =
-              let f = layer a in
-              record { ground = a .ground; sound = a .sound; work = a .work; used = a .at .used; l = f .l; shown = f .shown; numbered = f .numbered; fits = f .fits }
-
-          pub element-layer : {w′ : List ℕ} {r : Need} → LayerIs T B top c w w′ r → ElementIs T B p end top w w′ (record { need = r; next = q })
-          element-layer {w′} N = record {
-            left = N .left;
-            is = λ a.
-                let x = N .is (asked a) in
-                record {
-                  inner = x .inner;
-                  shows = x .shows;
-                  left = elements (step a .1);
-                  at = behind a w′;
-                  is = λ levels. unfolded a levels ∙ ap (onward a levels) (layer a .is levels ∙ x .is levels);
-                  on = omega (arith, one-less m z);
-                };
-          }
 
 -- what is asked of an element that is a layer
 pub element-asks : {T B w : List ℕ} {p end top : ℕ} → ElementAsked T B w p end top → {v : Member} → MemberIs T (take maxRoom (drop trailAt B)) p end v
     → {i q : ℕ} → v ≡ Member.At i q → {y : Answered} → AnsweredIs T i y → {c : ℕ} → y ≡ Answered.Layer c → LayerAsked T B w top c
-element-asks a m z h e = asked m z h e a
+element-asks {B = B} a m z h e = asked B m z h e a
 
 pub ruleset element-laws = (element-source, element-end, element-seam, element-undefined, element-missing, element-asks, element-layer)

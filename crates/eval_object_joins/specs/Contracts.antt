@@ -30,11 +30,10 @@ use Rattle.eval_stack.specs.Model.{entries, Work}
 use Rattle.eval_tables.specs.Keys.{KeyNumber}
 use Rattle.eval_worked.specs.Comes.{Comes}
 use Rattle.eval_worked.specs.declared.Worked.{Worked}
-use Rattle.eval_state.specs.Memories.{jobBytes, pairOf}
+use Rattle.eval_state.specs.Memories.{jobBytes, pairOf, mergeRoom}
 use Rattle.eval_state.specs.Values.{KeptAt}
 use Rattle.eval_state.specs.State.{State}
 use Rattle.eval_value_laws.specs.Contracts.{Left}
-use Rattle.eval_merge.specs.Contracts.{mergeRoom}
 use Rattle.eval_join_steps.specs.Distinct.{DistinctJoin}
 use Rattle.eval_join_steps.specs.Contracts.{TestedKind, Good, StepCase}
 use Rattle.eval_join_steps.specs.declared.JoinStep.{JoinStep}

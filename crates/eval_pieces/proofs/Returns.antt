@@ -52,10 +52,10 @@ records B = take maxRoom (drop trailAt B)
 
 module _ {T R B E : List ℕ} {base item i : ℕ} {w w₁ w₂ : List ℕ} {part : Part} {taken : Taken} (lent : Lent B E w base item i)
     (h : PathLayersIs T B R base item i w w₁ part) (k : GatherIs T R (part .lo) (part .hi) (part .stuck) w₁ w₂ taken) where
-  h-of : R ≡ records B → PathLayersIs T B (records B) base item i w w₁ part
+  h-of : {R′ : List ℕ} → R ≡ R′ → PathLayersIs T B R′ base item i w w₁ part
   h-of z = rw (← z) h
 
-  k-of : R ≡ records B → GatherIs T (records B) (part .lo) (part .hi) (part .stuck) w₁ w₂ taken
+  k-of : {R′ : List ℕ} → R ≡ R′ → GatherIs T R′ (part .lo) (part .hi) (part .stuck) w₁ w₂ taken
   k-of z = rw (← z) k
 
   same : Same base w w₂
@@ -134,6 +134,8 @@ module _ {T B E : List ℕ} {base item i k : ℕ} {w w′ : List ℕ} {r : Piece
       unlike true e = omega arith
       unlike false e = omega arith
 
+-- the bytes are given: an implicit argument would have the long slice of them computed
+module _ {T E : List ℕ} (B : List ℕ) {base item i k : ℕ} {w w′ : List ℕ} {r : Piece} (read : k ≡ getD T (8 * i) 0) where
   pub piece-reference : 25 ≤ k → ReferenceIs T (records B) B E base item i w w′ r → PieceIs T B E base item i w w′ r
   piece-reference l h = record {
     same = h .same;

@@ -20,9 +20,8 @@ use Rattle.read_numbering.specs.Contracts.{AsRead, itemOf}
 use Rattle.eval_writer.specs.Contracts.{Room}
 use Rattle.eval_records.specs.Contracts.{mostBytes}
 use Rattle.eval_stack.specs.Model.{entries, Work}
-use Rattle.eval_state.specs.Memories.{jobBytes}
+use Rattle.eval_state.specs.Memories.{jobBytes, mergeRoom}
 use Rattle.eval_state.specs.State.{State}
-use Rattle.eval_merge.specs.Contracts.{mergeRoom}
 
 -- ---- what is lent
 

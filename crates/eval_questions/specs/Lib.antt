@@ -1,3 +1,4 @@
 pub mod Contracts
 pub mod Rules
 pub mod Standing
+pub mod Work

@@ -19,7 +19,7 @@ use Rattle.eval_value_laws.specs.Contracts.{Left}
 use Rattle.eval_order.specs.Contracts.{Holding}
 use Rattle.eval_order.specs.declared.Progress.{Progress}
 use Rattle.eval_order.specs.declared.Step.{Step}
-use Rattle.eval_work.specs.Contracts.{Tasked, RefusedAs}
+use Rattle.eval_questions.specs.Work.{Tasked, RefusedAs}
 use Rattle.eval_need_laws.specs.declared.Need.{Need}
 use Rattle.eval_need_laws.specs.declared.Span.{Span}
 use Rattle.eval_need_laws.specs.Ground.{settlingRoom}

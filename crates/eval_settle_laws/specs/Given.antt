@@ -16,7 +16,7 @@ use Rattle.eval_stack.specs.Model.{Work}
 use Rattle.eval_state.specs.Later.{Later, later-same, later-then}
 use Rattle.eval_order.specs.Contracts.{Holding}
 use Rattle.eval_order.specs.declared.Progress.{Progress}
-use Rattle.eval_work.specs.Contracts.{Tasked, Lent}
+use Rattle.eval_questions.specs.Work.{Tasked, Lent}
 use Rattle.eval_need_laws.specs.Ground.{settlingRoom, Ground, Sound}
 
 -- ---- a task, with the trail and the count so far, in the job's memory and the caller's buffers

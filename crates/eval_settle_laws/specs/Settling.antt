@@ -27,7 +27,7 @@ use Rattle.eval_value_laws.specs.Frames.{left-all, left-then, left-lower}
 use Rattle.eval_value_laws.specs.Nodes.{not-zero}
 use Rattle.eval_order.specs.declared.Progress.{Progress}
 use Rattle.eval_order.specs.declared.Step.{Step}
-use Rattle.eval_work.specs.Contracts.{RefusedAs, WorkAsked, Works, WorkIs}
+use Rattle.eval_questions.specs.Work.{RefusedAs, WorkAsked, Works, WorkIs}
 use Rattle.eval_need_laws.specs.declared.Kind.{Kind}
 use Rattle.eval_need_laws.specs.declared.Span.{Span}
 use Rattle.eval_need_laws.specs.declared.Need.{Need}

@@ -34,6 +34,10 @@ jobBytes = pairTextsAt + maxRoom
 abbrev pub secondAt : ℕ
 secondAt = maxRecords
 
+-- what the two take on the stack, where both are within their size
+abbrev pub mergeRoom : ℕ
+mergeRoom = 10924
+
 -- an unresolved value's number is its item's, and the table has a place for its answer
 abbrev pub NumberIn : ℕ → ℕ → Type 0
 NumberIn m b = (m ≡ b) × (b < maxUnresolved)

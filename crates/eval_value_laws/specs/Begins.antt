@@ -58,10 +58,10 @@ pub members-left : {T R : List ℕ} {lo hi top : ℕ} {w x : List ℕ} → Membe
 members-left m = record { below = m .below; len = m .len }
 
 -- the members of objects that are given
-pub members-given : {T B : List ℕ} {src : Source} {N : Names} {known : ℕ → Option Answer} {lo hi top levels d : ℕ} {w x : List ℕ} {os : List Layer} → Work w
-    → MembersIs T (recordsOf B src) lo hi w x top → ObjectsGiven (memoryOf T B src N) known w lo hi levels d os → (n : ℕ) → levels ≤ suc n
+pub members-given : {T : List ℕ} (B : List ℕ) (src : Source) (N : Names) {lo hi top : ℕ} {w x : List ℕ} → Work w → MembersIs T (recordsOf B src) lo hi w x top
+    → {known : ℕ → Option Answer} {levels d : ℕ} {os : List Layer} → ObjectsGiven (memoryOf T B src N) known w lo hi levels d os → (n : ℕ) → levels ≤ suc n
     → MembersGiven (memoryOf T B src N) known x hi top n d os
-members-given {T} {B} {src} {N} {known} k m g n h =
+members-given {T} B src N k m {known} g n h =
     record {
       ground = g .ground;
       shown = members-level (memoryOf T B src N) (g .ground .tables .stored) known (g .shown) (g .fits) k m;
@@ -161,7 +161,7 @@ module _ {T B : List ℕ} {src : Source} {top levels : ℕ} {taken : Taken} {w :
                   let l = z .2 in
                   let t = push-there (A .work) (A .used) p (omega (arith, l .fits)) in
                   let O = object-pushed M known levels x (z .0) (q .0) l (t .0) (t .1) in
-                  (pred d, written (object (z .0)) ∷ [], z .1, members-given {src = src} {N = N} (omega (arith, A .work, p .len)) m O (levels - 1) (omega arith));
+                  (pred d, written (object (z .0)) ∷ [], z .1, members-given B src N (omega (arith, A .work, p .len)) m O (levels - 1) (omega arith));
             };
           }
 
@@ -179,7 +179,7 @@ module _ {T B : List ℕ} {src : Source} {top levels : ℕ} {taken : Taken} {w :
               kept = refl;
               is = λ N known d g G.
                   let z = is-as (Origin.Objects base) e N known d g G in
-                  (d, z .0, z .1, members-given {src = src} {N = N} (A .work) m (z .2) (levels - 1) (omega arith));
+                  (d, z .0, z .1, members-given B src N (A .work) m (z .2) (levels - 1) (omega arith));
             };
           }
 

@@ -38,17 +38,17 @@ pub ruleset node-laws = (node-is)
 
 module _ {B : List ℕ} {src : Source} {w : List ℕ} {hi : ℕ} {o : Out} {b : List ℕ} (A : Asked B src w hi o b) where
   -- members behind a head
-  pub object-asked : {T : List ℕ} {lo top : ℕ} {x : List ℕ} {i : Out} → MembersIs T (recordsOf B src) lo hi w x top → ClipOutIs (inside o) i → Asked B src x top i b
+  pub object-asked : {T : List ℕ} {lo top : ℕ} {x : List ℕ} → MembersIs T (recordsOf B src) lo hi w x top → {i : Out} → ClipOutIs (inside o) i → Asked B src x top i b
   object-asked m c = asked-again A (m .len) (members-high (A .used) m) (clip-not-past c) refl
 
-  pub object-is : {T : List ℕ} {lo top levels : ℕ} {i : Out} {made : Made} {r : Worked} {x w′ y a : List ℕ} → MembersIs T (recordsOf B src) lo hi w x top
-      → ClipOutIs (inside o) i → FieldsIs T B src hi top i levels x w′ made b y → HeadedIs o 7 made r y a → ObjectIs T B src lo hi o levels w w′ r b a
+  pub object-is : {T : List ℕ} {lo top : ℕ} {x : List ℕ} → MembersIs T (recordsOf B src) lo hi w x top
+      → {levels : ℕ} {i : Out} {made : Made} {r : Worked} {w′ y a : List ℕ} → ClipOutIs (inside o) i → FieldsIs T B src hi top i levels x w′ made b y → HeadedIs o 7 made r y a → ObjectIs T B src lo hi o levels w w′ r b a
   unfolding mergedIn
-  object-is {levels = levels} m c f h =
+  object-is m {levels = levels} c f h =
       record {
         left = left-then (members-left m) (left-lower (m .low) (f .left));
         within = headed-within h;
-        is = λ N known d os g. object-comes c (f .is N known d os (members-given {src = src} {N = N} (A .work) m g levels (omega arith))) h;
+        is = λ N known d os g. object-comes c (f .is N known d os (members-given B src N (A .work) m g levels (omega arith))) h;
       }
 
 pub ruleset object-laws = (object-is)

@@ -91,7 +91,8 @@ field-later {T} {B} {src} {p} {top} {j} {o} {w} l h q =
       };
     }
 
-module _ {T B : List ℕ} {src : Source} {p top j : ℕ} {w x : List ℕ} {tk : Taken} (below : p < top) (link : LinkIs w p j) (first : p ≤ j)
+-- The source is given: antt would compute the long slice of its records to see that it follows from them. So too what stands behind the slice below.
+module _ {T : List ℕ} (B : List ℕ) (src : Source) {p top j : ℕ} {w x : List ℕ} {tk : Taken} (below : p < top) (link : LinkIs w p j) (first : p ≤ j)
     (t : TakeIs T (recordsOf B src) p top w x tk) where
   module _ (N : Names) (known : ℕ → Option Answer) (levels d base : ℕ) (os : List Layer) (g : MembersGiven (memoryOf T B src N) known w base top levels d os)
       (l : base ≤ p) where
@@ -152,53 +153,53 @@ module _ {T B : List ℕ} {src : Source} {p top j : ℕ} {w x : List ℕ} {tk : 
           };
         }
 
-    module _ {k : ℕ} {i : Out} {a : List ℕ} (K : KeyIs T (recordsOf B src) (codeAt w p) k) where
-      -- its layers came to something
-      keyed : (u : Taken) → TakenIn top u → KeyBeforeIs T B k o i b a
-          → ((N : Names) (known : ℕ → Option Answer) (levels d base : ℕ) (os : List Layer) (g : MembersGiven (memoryOf T B src N) known w base top levels d os) (l : base ≤ p)
-          → (c : Given Counted) × (gatherOf known (layers N known levels d base os g l) [] ≡ c)
-          × TakenGivenBy (memoryOf T B src N) known x top levels (pred d) c u × (countedBy known (pred d) c ≡ value none → ⊥))
-          → FieldIs T B src p top o w x (Field.At u i) b a
-      unfolding countedIn gatherIn deeperIn
-      keyed u m h G =
-          record {
-            left = took t;
-            is = record {
-              key = k;
-              wrote = h;
-              inside = m;
-              is = λ N known levels d base os g l.
-                  let y = G N known levels d base os g l in
-                  rw (K .is)
-                  (record {
-                    number = a-key N known levels d base os g l;
-                    counted = y .0;
-                    given = record { is = y .2 };
-                    defined = y .3;
-                    is = by-counted N known levels d base os g l (y .0) (y .1);
-                  });
-            };
-          }
+  module _ {k : ℕ} (K : KeyIs T (recordsOf B src) (codeAt w p) k) {o i : Out} {b a : List ℕ} where
+    -- its layers came to something
+    keyed : (u : Taken) → TakenIn top u → KeyBeforeIs T B k o i b a
+        → ((N : Names) (known : ℕ → Option Answer) (levels d base : ℕ) (os : List Layer) (g : MembersGiven (memoryOf T B src N) known w base top levels d os) (l : base ≤ p)
+        → (c : Given Counted) × (gatherOf known (layers N known levels d base os g l) [] ≡ c)
+        × TakenGivenBy (memoryOf T B src N) known x top levels (pred d) c u × (countedBy known (pred d) c ≡ value none → ⊥))
+        → FieldIs T B src p top o w x (Field.At u i) b a
+    unfolding countedIn gatherIn deeperIn
+    keyed u m h G =
+        record {
+          left = took t;
+          is = record {
+            key = k;
+            wrote = h;
+            inside = m;
+            is = λ N known levels d base os g l.
+                let y = G N known levels d base os g l in
+                rw (K .is)
+                (record {
+                  number = a-key N known levels d base os g l;
+                  counted = y .0;
+                  given = record { is = y .2 };
+                  defined = y .3;
+                  is = by-counted N known levels d base os g l (y .0) (y .1);
+                });
+          };
+        }
 
-      pub field-one : {c : ℕ} → tk ≡ Taken.One c → KeyBeforeIs T B k o i b a → FieldIs T B src p top o w x (Field.At (Taken.One c) i) b a
-      unfolding gatherIn deeperIn countedIn
-      field-one {c} z h =
-          keyed (Taken.One c) tt h (λ N known levels d base os g l.
-          let M = memoryOf T B src N in
-          let s : TakenAs M (Merging M known (g .ground .tables) top x) (gatherOf known (layers N known levels d base os g l) []) (Taken.One c) =
-          rw z at (shown N known levels d base os g l) in
-          let G = one-given M known g (N .key (number N known levels d base os g l)) x (s .0) (s .1) (s .2) in
-          (value (one (s .0)), s .1, (s .0, refl, G), layer-defined M known top levels (pred d) c (s .0) G))
+    pub field-one : {c : ℕ} → tk ≡ Taken.One c → KeyBeforeIs T B k o i b a → FieldIs T B src p top o w x (Field.At (Taken.One c) i) b a
+    unfolding gatherIn deeperIn countedIn
+    field-one {c} z h =
+        keyed (Taken.One c) tt h (λ N known levels d base os g l.
+        let M = memoryOf T B src N in
+        let s : TakenAs M (Merging M known (g .ground .tables) top x) (gatherOf known (layers N known levels d base os g l) []) (Taken.One c) =
+        rw z at (shown N known levels d base os g l) in
+        let G = one-given M known g (N .key (number N known levels d base os g l)) x (s .0) (s .1) (s .2) in
+        (value (one (s .0)), s .1, (s .0, refl, G), layer-defined M known top levels (pred d) c (s .0) G))
 
-      pub field-merged : {hi : ℕ} → tk ≡ Taken.Merged hi → KeyBeforeIs T B k o i b a → FieldIs T B src p top o w x (Field.At (Taken.Merged hi) i) b a
-      unfolding gatherIn deeperIn countedIn mergedIn
-      field-merged {hi} z h =
-          keyed (Taken.Merged hi) (taken-low t z, taken-high t z) h (λ N known levels d base os g l.
-          let M = memoryOf T B src N in
-          let s : TakenAs M (Merging M known (g .ground .tables) top x) (gatherOf known (layers N known levels d base os g l) []) (Taken.Merged hi) =
-          rw z at (shown N known levels d base os g l) in
-          let G = merged-given M known g (N .key (number N known levels d base os g l)) x (s .0) (s .1) (s .2) in
-          (value (merged (s .0)), s .1, (s .0, refl, G), merged-defined known (pred d) (s .0)))
+    pub field-merged : {hi : ℕ} → tk ≡ Taken.Merged hi → KeyBeforeIs T B k o i b a → FieldIs T B src p top o w x (Field.At (Taken.Merged hi) i) b a
+    unfolding gatherIn deeperIn countedIn mergedIn
+    field-merged {hi} z h =
+        keyed (Taken.Merged hi) (taken-low t z, taken-high t z) h (λ N known levels d base os g l.
+        let M = memoryOf T B src N in
+        let s : TakenAs M (Merging M known (g .ground .tables) top x) (gatherOf known (layers N known levels d base os g l) []) (Taken.Merged hi) =
+        rw z at (shown N known levels d base os g l) in
+        let G = merged-given M known g (N .key (number N known levels d base os g l)) x (s .0) (s .1) (s .2) in
+        (value (merged (s .0)), s .1, (s .0, refl, G), merged-defined known (pred d) (s .0)))
 
 pub ruleset field-laws = (field-later, field-nothing, field-needs, field-one, field-merged)
 

@@ -15,6 +15,23 @@ use Rattle.eval_writer.specs.Model.{wordAt, whole, puts}
 use Rattle.eval_writer.specs.Contracts.{Room, Puts, FilledIs, PutsText, Wrote, KeyWrote}
 use Rattle.eval_writer.specs.declared.Out.{Out}
 
+-- By lists of any length: with the room's texts in place the long slice would be computed.
+whole-full : (xs x : List ℕ) (to n : ℕ) → length xs < to + n → xs ≡ whole xs to (n, x)
+unfolding whole
+whole-full xs x to n l = rw (lt-leb (to + n) (length xs) l)
+
+whole-none : (xs : List ℕ) (to n : ℕ) → xs ≡ whole xs to (n, [])
+unfolding whole
+whole-none xs to n = go (leb (to + n) (length xs))
+  where
+    go : (t : Bool) → xs ≡ cond t xs xs
+    go true = refl
+    go false = refl
+
+word-none : (from : List ℕ) (at n : ℕ) → length from < at + n → wordAt from at n ≡ []
+unfolding wordAt
+word-none from at n h = rw (lt-leb (at + n) (length from) h)
+
 module _ {o : List ℕ} (to at n : ℕ) (from : List ℕ) where
   pub text-in : {a : List ℕ} → Room o → at + n ≤ length from → to + n ≤ 16384 → FilledIs (16384 + to) from at n o a → PutsText to n (wordAt from at n) o a
   unfolding wordAt whole
@@ -27,18 +44,14 @@ module _ {o : List ℕ} (to at n : ℕ) (from : List ℕ) where
       }
 
   pub text-full : Room o → 16384 < to + n → PutsText to n (wordAt from at n) o o
-  unfolding whole
   text-full r k =
       let l : length (drop 16384 o) < to + n = omega (arith, length-drop 16384 o) in
-      record { records = refl; texts = rw (lt-leb (to + n) (length (drop 16384 o)) l) }
+      record { records = refl; texts = whole-full (drop 16384 o) (wordAt from at n) to n l }
 
   pub text-none : length from < at + n → PutsText to n (wordAt from at n) o o
-  unfolding wordAt whole
-  text-none h = record { records = refl; texts = rw (lt-leb (at + n) (length from) h) (go (leb (to + n) (length (drop 16384 o)))) }
-    where
-      go : (t : Bool) → drop 16384 o ≡ cond t (drop 16384 o) (drop 16384 o)
-      go true = refl
-      go false = refl
+  text-none h =
+      let x = drop 16384 o in
+      record { records = refl; texts = whole-none x to n ∙ ap (λ (z : List ℕ). whole x to (n, z)) (sym (word-none from at n h)) }
 
 pub ruleset text-laws = (text-in, text-full, text-none)
 

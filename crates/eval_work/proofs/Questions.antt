@@ -29,7 +29,7 @@ use Rattle.eval_unresolved.specs.Contracts.{Asked, Questioned, OutcomeCase, Out
 use Rattle.eval_order.specs.Contracts.{Holding}
 use Rattle.eval_order.specs.declared.Progress.{Progress}
 use Rattle.eval_turns.specs.Contracts.{newest, ItemIs}
-use Rattle.eval_work.specs.Contracts.{Lent, WorkAsked}
+use Rattle.eval_questions.specs.Work.{Lent, WorkAsked}
 use Rattle.eval_work.proofs.Standing.{Listed, Come, Due, Pending}
 
 -- ---- an unresolved value of the document, by its number

@@ -19,7 +19,7 @@ use Rattle.eval_sizes.specs.declared.Outcome.{Outcome}
 use Rattle.eval_unresolved.specs.Contracts.{ValueDone}
 use Rattle.eval_order.specs.Contracts.{Holding}
 use Rattle.eval_order.specs.declared.Progress.{Progress}
-use Rattle.eval_work.specs.Contracts.{RefusedAs, WorkAsked}
+use Rattle.eval_questions.specs.Work.{RefusedAs, WorkAsked}
 
 -- ---- the list of questions that have begun, the newest last
 

@@ -26,7 +26,7 @@ use Rattle.eval_order.specs.declared.Progress.{Progress}
 use Rattle.eval_order.specs.declared.Step.{Step}
 use Rattle.eval_turns.specs.Contracts.{newest, Laid, LaidIs, begunNext, begunList, TurnNeeds, TurnCase, TurnIs}
 use Rattle.eval_turns.specs.declared.Next.{Next}
-use Rattle.eval_work.specs.Contracts.{WorkAsked, Works}
+use Rattle.eval_questions.specs.Work.{WorkAsked, Works}
 use Rattle.eval_work.proofs.Standing.{Listed, listed-set, turnsAt, Standing, Come, Newest, Awaited, Due, Pending}
 
 module _ {T₀ B₀ E w₀ room₀ trail₀ text₀ : List ℕ} {base b : ℕ} {p₀ : Progress} {budget : ℕ}

@@ -15,7 +15,7 @@ use Rattle.eval_order.specs.declared.Progress.{Progress}
 use Rattle.eval_order.specs.declared.Step.{Step}
 use Rattle.eval_turns.specs.Contracts.{TurnAsked, TurnIs, ItemIs}
 use Rattle.eval_turns.specs.declared.Next.{Next}
-use Rattle.eval_work.specs.Contracts.{Lent, WorkAsked, WorkIs}
+use Rattle.eval_questions.specs.Work.{Lent, WorkAsked, WorkIs}
 use Rattle.eval_work.proofs.Standing.{turnsAt, Come, Pending}
 use Rattle.eval_work.proofs.Turns.{turn-asks, turn-on, turn-ends}
 use Rattle.eval_work.proofs.Questions.{question-asked, question-pends}

@@ -9,7 +9,7 @@ use eval_turns::Next;
 use eval_turns::newest_item;
 use eval_turns::turned;
 use eval_unresolved::unresolved_value;
-ghost use Rattle.eval_work.specs.Contracts.{WorkAsked, WorkIs};
+ghost use Rattle.eval_questions.specs.Work.{WorkAsked, WorkIs};
 
 /// Works question b out, which has no answer, with all those that it needs.
 pub fn work(

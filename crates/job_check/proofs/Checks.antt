@@ -27,8 +27,7 @@ use Rattle.job_resolved.specs.Answers.{verdictOf}
 use Rattle.job_resolved.specs.Contracts.{CheckIs}
 use Rattle.job_resolved.specs.declared.Verdict.{Verdict}
 use Rattle.job_tasks.specs.Contracts.{Ready, TaskCase, TaskIs}
-use Rattle.check_trails.specs.Contracts.{Known}
-use Rattle.check_sheets.specs.Contracts.{SheetAsked, SheetIs}
+use Rattle.check_trails.specs.Contracts.{Known, SheetAsked, SheetIs}
 use Rattle.job_check.specs.Contracts.{partsFit, PartsFit}
 
 others-true : (others : Bool) (s e : List ℕ) (x : Setting) → inputs others s e ≡ valid x → others ≡ true

@@ -1,6 +1,6 @@
 // The job check: a sheet is held against what the rules give, entry by entry. Nothing of the caller's is written.
 // Computes: Jobs (checkJob)
-use check_sheets::check_sheet;
+use check_trails::check_sheet;
 use codes::limits;
 use job_resolved::Verdict;
 use job_tasks::read_task;

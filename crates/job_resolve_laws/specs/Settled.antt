@@ -14,7 +14,7 @@ use Rattle.eval_writer.specs.Contracts.{Room}
 use Rattle.eval_stack.specs.Model.{workRoom}
 use Rattle.eval_order.specs.declared.Progress.{Progress}
 use Rattle.eval_order.specs.declared.Step.{Step}
-use Rattle.eval_work.specs.Contracts.{RefusedAs}
+use Rattle.eval_questions.specs.Work.{RefusedAs}
 use Rattle.eval_settle_laws.specs.Contracts as settling
 use Rattle.job_resolved.specs.Answers.{resolutionTold}
 use Rattle.job_resolved.specs.declared.Resolution.{Resolution}
@@ -86,7 +86,7 @@ module _ {T B E w : List ℕ} {budget : ℕ} {trail text : List ℕ} where
             let h : settling.RootSettled (settles a l zeros whole) T′ B′ trail′ text′ p = settled a z in
             record { key = _; items = a .items; S = h .S; n = h .n; holding = h .holding; is = h .is }
 
-        pub hand-asked : (w′ room′ : List ℕ) → length B′ ≡ length B → length w′ ≡ workRoom → Room room′ → root.RootAsked B′ w′ room′ p
+        pub hand-asked : (w′ room′ : List ℕ) → length B′ ≡ length B → length w′ ≡ workRoom → Room room′ → root.HandRootAsked B′ w′ room′ p
         hand-asked w′ room′ i j m =
             let H = at-root A .holding in
             record {
@@ -97,6 +97,6 @@ module _ {T B E w : List ℕ} {budget : ℕ} {trail text : List ℕ} where
               texts = omega (arith, H .texts, H .state .small);
             }
 
-        pub resolution-done : {table table′ text″ : List ℕ} {r : Resolution} → root.RootIs T′ B′ p table table′ text′ text″ r
+        pub resolution-done : {table table′ text″ : List ℕ} {r : Resolution} → root.HandRootIs T′ B′ p table table′ text′ text″ r
             → ResolutionIs T B E budget trail trail′ table table′ text text″ r
         resolution-done {table} R = record { is = λ a. R .is (task a) trail′ (task-nested a) (at-root a) }

@@ -25,8 +25,8 @@ use Rattle.eval_keys.specs.Columns.{keyText}
 use Rattle.eval_state.specs.State.{State}
 use Rattle.eval_weights.specs.Nodes.{PiecesBelow}
 use Rattle.eval_weights.specs.Weights.{mostWeight, root-below, pieces-below}
-use Rattle.eval_unresolved.specs.Contracts.{PiecesFit, Fits}
-use Rattle.eval_work.specs.Contracts.{Tasked}
+use Rattle.eval_questions.specs.Contracts.{PiecesFit, Fits}
+use Rattle.eval_questions.specs.Work.{Tasked}
 use Rattle.eval_order.specs.Contracts.{Holding}
 use Rattle.eval_order.specs.declared.Progress.{Progress}
 use Rattle.eval_need_laws.specs.Ground.{settlingRoom}

@@ -1,1 +1,3 @@
-pub mod Roots
+mod Values
+mod Checks
+mod Hands

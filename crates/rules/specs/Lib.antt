@@ -33,3 +33,4 @@ pub mod Examples
 pub mod EnvironmentExamples
 pub mod LengthExamples
 pub mod SpaceExamples
+pub mod OneByOne

@@ -4,6 +4,9 @@ use borrow.Author.Needs.{needs}
 use Rattle.eval_compared.proofs.same_entry.Statement.{statement}
 use Rattle.eval_compared.proofs.same_entry.Tie as tie
 
+returns : tie.Need-returns
+returns c = search entry-laws
+
 pub same-entry-spec : {M : Type 1} → statement M
 same-entry-spec =
     tie.close
@@ -13,5 +16,5 @@ same-entry-spec =
     (λ c. search needs)
     (λ c. search needs)
     (λ c κs. search needs)
-    (λ c. search entry-laws)
+    returns
     (λ c. search entry-laws))

@@ -4,6 +4,9 @@ use borrow.Author.Needs.{needs}
 use Rattle.eval_piece_items.proofs.is_sole.Statement.{statement}
 use Rattle.eval_piece_items.proofs.is_sole.Tie as tie
 
+returns-3 : tie.Need-returns-3
+returns-3 c = search sole-laws
+
 pub is-sole-spec : {M : Type 1} → statement M
 is-sole-spec =
     tie.close
@@ -19,5 +22,5 @@ is-sole-spec =
     (λ c. search needs)
     (λ c κs. search needs)
     (λ c. search needs)
-    (λ c. search sole-laws)
+    returns-3
     (λ c. search sole-laws))

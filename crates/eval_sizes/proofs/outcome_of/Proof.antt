@@ -4,13 +4,16 @@ use borrow.Author.Needs.{needs}
 use Rattle.eval_sizes.proofs.outcome_of.Statement.{statement}
 use Rattle.eval_sizes.proofs.outcome_of.Tie as tie
 
+returns : tie.Need-returns
+returns c = search outcome-laws
+
 pub outcome-of-spec : {M : Type 1} → statement M
 outcome-of-spec =
     tie.close
     (tie.spec
     (λ c. search needs)
     (λ c κs. search needs)
-    (λ c. search outcome-laws)
+    returns
     (λ c κs. search needs)
     (λ c. search needs)
     (λ c. search needs)

@@ -4,10 +4,13 @@ use borrow.Author.Needs.{needs}
 use Rattle.eval_sizes.proofs.sized.Statement.{statement}
 use Rattle.eval_sizes.proofs.sized.Tie as tie
 
+returns : tie.Need-returns
+returns c = search sized-laws
+
 pub sized-spec : {M : Type 1} → statement M
 sized-spec =
     tie.close
     (tie.spec
     (λ c κs. search needs)
-    (λ c. search sized-laws)
+    returns
     (λ c. search sized-laws))

@@ -4,6 +4,9 @@ use borrow.Author.Needs.{needs}
 use Rattle.eval_words.proofs.put_key.Statement.{statement}
 use Rattle.eval_words.proofs.put_key.Tie as tie
 
+returns : tie.Need-returns
+returns c = search key-wrote
+
 pub put-key-spec : {M : Type 1} → statement M
 put-key-spec =
     tie.close
@@ -16,4 +19,4 @@ put-key-spec =
     (λ c κs. search needs)
     (λ c κs. search needs)
     (λ c. search needs)
-    (λ c. search key-wrote))
+    returns)

@@ -1,8 +1,11 @@
 -- laws: roots
-use Rattle.job_root.proofs.Roots.{roots}
+use Rattle.job_root.proofs.Hands.{roots}
 use borrow.Author.Needs.{needs}
 use Rattle.job_root.proofs.hand_root.Statement.{statement}
 use Rattle.job_root.proofs.hand_root.Tie as tie
+
+returns : tie.Need-returns
+returns c = search roots
 
 pub hand-root-spec : {M : Type 1} → statement M
 hand-root-spec =
@@ -19,7 +22,7 @@ hand-root-spec =
     (λ c. search needs)
     (λ c. search needs)
     (λ c. search needs)
-    (λ c. search roots)
+    returns
     (λ c. search needs)
     (λ c. search needs)
     (λ c. search roots)

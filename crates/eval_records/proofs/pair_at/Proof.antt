@@ -1,0 +1,19 @@
+use borrow.Author.Needs.{needs}
+use Rattle.eval_records.proofs.pair_at.Statement.{statement}
+use Rattle.eval_records.proofs.pair_at.Tie as tie
+
+returns : tie.Need-returns
+returns c = search needs
+
+pub pair-at-spec : {M : Type 1} → statement M
+pair-at-spec =
+    tie.close
+    (tie.spec
+    (λ c κs. search needs)
+    (λ c κs. search needs)
+    (λ c. search needs)
+    (λ c κs. search needs)
+    (λ c κs. search needs)
+    (λ c. search needs)
+    (λ c. search needs)
+    returns)
