@@ -1,3 +1,5 @@
 pub mod Around
+pub mod RootAround
 pub mod Keys
+pub mod Beginning
 pub mod Looking

@@ -1,7 +1,7 @@
 -- The turns of the loop that goes down as long as the path's elements are the fields' keys.
 use mathlib.Core.Path.{_≡_, refl, sym, ap, subst, _∙_}
 use Prim.Native.Nat.{ℕ, _+_, _*_, _≤_, _<_}
-use mathlib.Core.Bool.{Bool, false}
+use mathlib.Core.Bool.{Bool, true, false}
 use mathlib.Core.List.{List, []}
 use mathlib.Core.Option.{none, some}
 use native.Mathlib.Omega.{arith}
@@ -20,23 +20,9 @@ use Rattle.eval_keys.specs.Columns.{keysAt}
 use Rattle.eval_root.specs.Documents.{member-kind}
 use Rattle.eval_back.specs.Ranges.{Number}
 use Rattle.eval_back.specs.Passing.{Spans}
-use Rattle.eval_back.specs.Steps.{Down, On, on-start, on-other, on-literal, on-field, on-end, down-end, down-gives-up}
+use Rattle.eval_back.specs.Steps.{Down, On, on-other, on-literal, on-field, on-end, down-end, down-gives-up}
 use Rattle.eval_back.specs.OwnKey.{apart}
-use Rattle.eval_back.specs.Contracts.{AroundIs, HasKeyIs, PathIs, AskedAt, ownOf, LooksBackIs}
-
--- at an item on the way, so many elements having been found equal
-pub record Going (T keys : List ℕ) (count item literal i : ℕ) : Type 0 where
-  pub low : literal < item
-  pub is : (h : ℕ → ℕ) (lo hi bound : ℕ) (root : Root) (p : List Text) (a : AskedAt T item h lo hi bound root) → PathIs T keys count h lo hi p
-      → On (numbers T) h lo hi bound item (a .kind) none (onward belowOne) (looksBack root p (numberAt (numbers T) item)) (some (drop i p, i)) literal
-
-pub looks-start : {T keys : List ℕ} {count item : ℕ} → 0 < item → Going T keys count item 0 0
-looks-start {T} {keys} {count} {item} l = record {
-  low = l;
-  is = λ h lo hi bound root p a w.
-      on-start (numbers T) h lo hi bound item (a .kind) none (onward belowOne) root (looksBack root p (numberAt (numbers T) item)) (some (p, 0)) refl (a .shown)
-      (a .from) l (a .inside);
-}
+use Rattle.eval_back.specs.Contracts.{AroundIs, HasKeyIs, PathIs, AskedAt, ownOf, Going, LooksBackIs}
 
 module _ {T keys : List ℕ} {count item literal i : ℕ} (G : Going T keys count item literal i) where
   pub looks-end : count ≤ i → LooksBackIs T keys count item 0
@@ -57,7 +43,7 @@ module _ {T keys : List ℕ} {count item literal i : ℕ} (G : Going T keys coun
 
     module _ {at key next : ℕ} (m : i < count) (s : kind ≡ objectItem) (f : AroundIs T literal item at) (q : ReadIs T (keysAt + at) key)
         (n : ReadIs keys i next) where
-      module _ (h : ℕ → ℕ) (lo hi bound : ℕ) (root : Root) (p : List Text) (a : AskedAt T item h lo hi bound root) (w : PathIs T keys count h lo hi p) where
+      module _ (h : ℕ → ℕ) (lo hi bound : ℕ) (root : Root) (p : List Text) (a : AskedAt T item h lo hi bound root) (w : PathIs T keys count h lo hi bound root p) where
         abbrev result : Left ℕ
         result = looksBack root p (numberAt (numbers T) item)
 
@@ -122,6 +108,6 @@ looks-apart {T} {keys} {count} {item} {own} {b} l r w e = record {
       (apart (subst (λ (k : ℕ). HasKeyIs keys count k false) (r .is) (subst (HasKeyIs keys count own) e w)) a q l)));
 }
 
-pub ruleset looks = (looks-start, looks-end, looks-other, looks-differs, looks-found, looks-on)
+pub ruleset looks = (looks-end, looks-other, looks-differs, looks-found, looks-on)
 
 pub ruleset aparts = (looks-apart)

@@ -61,19 +61,7 @@ module _ {L : Type 0} (below : Text → Fields → L → L) (Holds : L → Node 
   on-kind x i o =
       by-equal _ (kindAt g i) objectItem (λ k. k) (λ k. clash (cc (on-other g h lo hi bound t kind none (onward below) goal x i o k)))
 
-  -- a level more: one key deeper, then the literal's earlier fields, which stand from its first item up to the field's
-  pub record Level (literal at i : ℕ) (w : L) : Type 0 where
-    pub earlier : Fields
-    pub key : Key
-    pub node : Node
-    pub later : Fields
-    pub stand : FieldsIn g h lo hi bound (literal + 1) at earlier
-    pub inside : i < length p
-    pub holds : Holds w (object (joinFields earlier (field key node later)))
-    pub before : Before at (i + 1) (below (getD p i []) earlier w)
-
-  module _ (literal i at : ℕ) (w : L) (B : Before literal i w) (less : literal < t)
-      (f : (end : ℕ) (fs : Fields) → FieldsIn g h lo hi bound (literal + 1) end fs → t < end → Spans g h lo hi bound (literal + 1) end fs t at) where
+  module _ (literal i : ℕ) (w : L) (B : Before literal i w) (less : literal < t) where
     state : Left L
     state = some (drop i p, w)
 
@@ -91,90 +79,109 @@ module _ {L : Type 0} (below : Text → Fields → L → L) (Holds : L → Node 
     unfolding state
     down = on-literal g h lo hi bound t kind none (onward below) goal state literal (here-on .on) is-object
 
-    around : Spans g h lo hi bound (literal + 1) (nextAt g literal) (down .fields) t at
-    around = f (nextAt g literal) (down .fields) (down .shown) (down .high)
-
-    abbrev earlier : Fields
-    earlier = around .found .earlier
-
-    abbrev next : Left L
-    next = some (drop (i + 1) p, below (getD p i []) earlier w)
-
-    key-same : same (around .found .key .text) (getD p i []) ≡ true
-    unfolding state
-    key-same = go (same (around .found .key .text) (getD p i [])) refl
-      where
-        go : (b : Bool) → same (around .found .key .text) (getD p i []) ≡ b → b ≡ true
-        go true e = refl
-        go false e =
-            let z = down-gives-up g h lo hi bound t kind none (onward below) goal state literal down at (around .found) (around .low) (around .high)
-            (onward-off below) (onward-other below w earlier (around .found .key) p i short e) in
-            clash (cc z)
-
-    entered : onward below state earlier (around .found .key) ≡ next
-    unfolding state
-    entered = onward-same below w earlier (around .found .key) p i short key-same
-
-    -- the item's own field
-    here : at ≡ t → goal ≡ next
-    unfolding state
-    here e =
-        down-end g h lo hi bound t kind none (onward below) goal state literal down at (around .found) (around .low) (around .high) e ∙ entered
-
-    -- a field with the item inside it
-    inner-on : at < t → On g h lo hi bound t kind none (onward below) goal (onward below state earlier (around .found .key)) at
-    unfolding state
-    inner-on e = on-field g h lo hi bound t kind none (onward below) goal state literal down at (around .found) e (around .high)
-
-    inner : at < t → OnIn next at
-    inner e = subst (λ (x : Left L). OnIn x at) entered (inner-on e)
-
-    last : at ≡ t → own ≡ i + 1
-    unfolding restOr
-    last e =
-        let z : length (drop own p) ≡ length (drop (i + 1) p) = ap (λ x. length (restOr x)) (here e) in
-        omega (arith, z, dropped p own within, dropped p (i + 1) (omega (arith, short)))
-
-    more : at < t → i + 1 < own
-    more e =
-        let d = on-literal g h lo hi bound t kind none (onward below) goal next at (inner e) (on-kind next at (inner e)) in
-        let z = shorter below (drop (i + 1) p) (below (getD p i []) earlier w) (d .from) (d .fields) (numberAt g t) (drop own p) m (d .is) in
-        omega (arith, z, dropped p own within, dropped p (i + 1) (omega (arith, short)))
-
-    holds-here : Holds w (object (joinFields earlier (field (around .found .key) (around .found .node) (around .found .later))))
+    is-node : here-on .on .node ≡ object (down .fields)
     unfolding state down
-    holds-here =
-        let e = on-fields g h lo hi bound t kind none (onward below) goal state literal (here-on .on) is-object in
-        subst (Holds w) (e ∙ ap object (around .found .is)) (here-on .holds)
+    is-node = on-fields g h lo hi bound t kind none (onward below) goal state literal (here-on .on) is-object
 
-    holds-on : Holds (below (getD p i []) earlier w) (around .found .node)
-    holds-on = kept .enters w (getD p i []) earlier (around .found .key) (around .found .node) (around .found .later) holds-here
+    -- the field around the item
+    module _ (at : ℕ) (around : Spans g h lo hi bound (literal + 1) (nextAt g literal) (down .fields) t at) where
+      abbrev earlier : Fields
+      earlier = around .found .earlier
 
-    same-node : (x y : Left L) (e : x ≡ y) (o : OnIn x at) → subst (λ (z : Left L). OnIn z at) e o .node ≡ o .node
-    same-node x y e o = refl
+      abbrev next : Left L
+      next = some (drop (i + 1) p, below (getD p i []) earlier w)
 
-    -- the node that is entered is the field's
-    holds-inner : (q : at < t) → Holds (below (getD p i []) earlier w) (inner q .node)
-    unfolding state inner inner-on
-    holds-inner q =
-        subst (Holds (below (getD p i []) earlier w))
-        (sym (same-node (onward below state earlier (around .found .key)) next entered (inner-on q)
-        ∙ on-node g h lo hi bound t kind none (onward below) goal state literal down at (around .found) q (around .high))) holds-on
+      key-same : same (around .found .key .text) (getD p i []) ≡ true
+      unfolding state
+      key-same = go (same (around .found .key .text) (getD p i [])) refl
+        where
+          go : (b : Bool) → same (around .found .key .text) (getD p i []) ≡ b → b ≡ true
+          go true e = refl
+          go false e =
+              let z = down-gives-up g h lo hi bound t kind none (onward below) goal state literal down at (around .found) (around .low) (around .high)
+              (onward-off below) (onward-other below w earlier (around .found .key) p i short e) in
+              clash (cc z)
 
-    pub before-turn : Level literal at i w
-    unfolding lastOr
-    before-turn = record {
-      earlier = earlier;
-      key = around .found .key;
-      node = around .found .node;
-      later = around .found .later;
-      stand = around .found .before;
-      inside = short;
-      holds = holds-here;
-      before = record {
+      entered : onward below state earlier (around .found .key) ≡ next
+      unfolding state
+      entered = onward-same below w earlier (around .found .key) p i short key-same
+
+      -- the item's own field
+      here : at ≡ t → goal ≡ next
+      unfolding state
+      here e =
+          down-end g h lo hi bound t kind none (onward below) goal state literal down at (around .found) (around .low) (around .high) e ∙ entered
+
+      -- a field with the item inside it
+      inner-on : at < t → On g h lo hi bound t kind none (onward below) goal (onward below state earlier (around .found .key)) at
+      unfolding state
+      inner-on e = on-field g h lo hi bound t kind none (onward below) goal state literal down at (around .found) e (around .high)
+
+      inner : at < t → OnIn next at
+      inner e = subst (λ (x : Left L). OnIn x at) entered (inner-on e)
+
+      last : at ≡ t → own ≡ i + 1
+      unfolding restOr
+      last e =
+          let z : length (drop own p) ≡ length (drop (i + 1) p) = ap (λ x. length (restOr x)) (here e) in
+          omega (arith, z, dropped p own within, dropped p (i + 1) (omega (arith, short)))
+
+      more : at < t → i + 1 < own
+      more e =
+          let d = on-literal g h lo hi bound t kind none (onward below) goal next at (inner e) (on-kind next at (inner e)) in
+          let z = shorter below (drop (i + 1) p) (below (getD p i []) earlier w) (d .from) (d .fields) (numberAt g t) (drop own p) m (d .is) in
+          omega (arith, z, dropped p own within, dropped p (i + 1) (omega (arith, short)))
+
+      holds-here : Holds w (object (joinFields earlier (field (around .found .key) (around .found .node) (around .found .later))))
+      holds-here = subst (Holds w) (is-node ∙ ap object (around .found .is)) (here-on .holds)
+
+      holds-on : Holds (below (getD p i []) earlier w) (around .found .node)
+      holds-on = kept .enters w (getD p i []) earlier (around .found .key) (around .found .node) (around .found .later) holds-here
+
+      same-node : (x y : Left L) (e : x ≡ y) (o : OnIn x at) → subst (λ (z : Left L). OnIn z at) e o .node ≡ o .node
+      same-node x y e o = refl
+
+      -- the node that is entered is the field's
+      holds-inner : (q : at < t) → Holds (below (getD p i []) earlier w) (inner q .node)
+      unfolding state inner inner-on
+      holds-inner q =
+          subst (Holds (below (getD p i []) earlier w))
+          (sym (same-node (onward below state earlier (around .found .key)) next entered (inner-on q)
+          ∙ on-node g h lo hi bound t kind none (onward below) goal state literal down at (around .found) q (around .high))) holds-on
+
+      one-more : Before at (i + 1) (below (getD p i []) earlier w)
+      unfolding lastOr
+      one-more = record {
         going = λ q. record { less = more q; on = inner q; holds = holds-inner q };
         ended = λ q. record { all = sym (last q); is = sym (ap (lastOr w) (here q)); node = around .found .node; holds = holds-on };
-      };
+      }
+
+    -- A literal's fields, and what the one around the item gives: its key is the path's next element, and there is a level more, one key deeper
+    -- and then the literal's earlier fields.
+    pub record Entering : Type 0 where
+      pub inside : i < length p
+      pub fields : Fields
+      pub stand : FieldsIn g h lo hi bound (literal + 1) (nextAt g literal) fields
+      pub high : t < nextAt g literal
+      pub node : B .going less .on .node ≡ object fields
+      pub key : (at : ℕ) (around : Spans g h lo hi bound (literal + 1) (nextAt g literal) fields t at)
+          → same (around .found .key .text) (getD p i []) ≡ true
+      pub holds : (at : ℕ) (around : Spans g h lo hi bound (literal + 1) (nextAt g literal) fields t at)
+          → Holds w (object (joinFields (around .found .earlier) (field (around .found .key) (around .found .node) (around .found .later))))
+      pub before : (at : ℕ) (around : Spans g h lo hi bound (literal + 1) (nextAt g literal) fields t at)
+          → Before at (i + 1) (below (getD p i []) (around .found .earlier) w)
+
+    pub before-turn : Entering
+    unfolding here-on
+    before-turn = record {
+      inside = short;
+      fields = down .fields;
+      stand = down .shown;
+      high = down .high;
+      node = is-node;
+      key = key-same;
+      holds = holds-here;
+      before = one-more;
     }
 
 -- ---- at the root's item, with nothing below it
@@ -185,6 +192,7 @@ pub record Begun {L : Type 0} (below : Text → Fields → L → L) (Holds : L �
   pub last : L
   pub is : lookBack below root p l (numberAt g t) ≡ some (drop own p, last)
   pub before : Before below Holds kept g h lo hi bound t kind p own within last 0 0 l
+  pub at-root : (d : 0 < t) → before .going d .on .node ≡ rootNode root
 
 pub before-start : {L : Type 0} (below : Text → Fields → L → L) (Holds : L → Node → Type 0) (kept : Kept below Holds) (g h : ℕ → ℕ) (lo hi bound t : ℕ)
     (kind : kindAt g t ≡ unresolvedItem) (root : Root) (p rest : List Text) (own : ℕ) (l : L) → looksBack root p (numberAt g t) ≡ some (rest, own)
@@ -204,4 +212,5 @@ before-start {L} below Holds kept g h lo hi bound t kind root p rest own l e s f
         };
         ended = λ d. absurd (omega arith);
       };
+      at-root = λ d. refl;
     }

@@ -2,6 +2,7 @@ pub mod Ranges
 pub mod Passing
 pub mod Steps
 pub mod Before
+pub mod Roots
 pub mod Contracts
 pub mod OwnKey
 pub mod Uses

@@ -85,7 +85,7 @@ has-none k (j ∷ p) n = by-test (λ y. y ≡ false) (same k j) (λ e. sym e ∙
 
 -- the number of the item's key is none of the path's: so is the key
 pub apart : {T keys : List ℕ} {count item : ℕ} {h : ℕ → ℕ} {lo hi bound : ℕ} {root : Root} {p : List Text}
-    → HasKeyIs keys count (columns.keyAt T item) false → (a : AskedAt T item h lo hi bound root) → PathIs T keys count h lo hi p → 0 < item
+    → HasKeyIs keys count (columns.keyAt T item) false → (a : AskedAt T item h lo hi bound root) → PathIs T keys count h lo hi bound root p → 0 < item
     → Apart (ownKey root (numberAt (numbers T) item)) p
 apart {T} {keys} {count} {item} {h} {lo} {hi} {bound} {root} {p} w a q l = go (ownKey root (numberAt (numbers T) item)) (own-at a l)
   where

@@ -15,12 +15,13 @@ use Rattle.theory_back.specs.Passes.{looksBack, looks-some}
 use Rattle.eval_keys.specs.Numbers.{Numbered, numberOf}
 use Rattle.eval_keys.specs.Contracts.{FindIs}
 use Rattle.eval_keys.specs.Documents.{key-tells, key-found}
+use Rattle.eval_back.specs.Roots.{FirstFields}
 use Rattle.eval_back.specs.Contracts.{Tells, PathIs, AskedAt, ownOf, LooksBackIs}
 
 -- ---- what `looks_back` answers
 
 module _ {T keys : List ℕ} {count item : ℕ} {h : ℕ → ℕ} {lo hi bound : ℕ} {root : Root} {p : List Text} (a : AskedAt T item h lo hi bound root)
-    (q : PathIs T keys count h lo hi p) where
+    (q : PathIs T keys count h lo hi bound root p) where
   abbrev found : Left ℕ
   found = looksBack root p (numberAt (numbers T) item)
 
@@ -51,9 +52,12 @@ module _ {X T : List ℕ} {n lo hi : ℕ} (N : Numbered X T n) (room : hi ≤ le
   tells-found f y = λ at u low high kind x. key-found N room at low (omega arith) kind x f y
 
   -- so a path is given by the numbers of its elements
-  pub path-is : {keys : List ℕ} {count : ℕ} {p : List Text} → count ≡ length p
-      → ((i : ℕ) → i < length p → getD keys i 0 ≡ numberOf X T n (getD p i [])) → PathIs T keys count (letters 0 X) lo hi p
-  path-is {keys} {count} {p} e f = record {
+  pub path-is : {keys : List ℕ} {count bound : ℕ} {root : Root} {p : List Text} → count ≡ length p
+      → ((i : ℕ) → i < length p → getD keys i 0 ≡ numberOf X T n (getD p i []))
+      → (0 < length p → FirstFields T (getD keys 0 0) (letters 0 X) lo hi bound (getD p 0 []) root)
+      → PathIs T keys count (letters 0 X) lo hi bound root p
+  path-is {keys} {count} {bound} {root} {p} e f first = record {
     long = e;
+    first = first;
     tells = λ i l. subst (λ (k : ℕ). Tells T (letters 0 X) lo hi k (getD p i [])) (sym (f i l)) (tells-number (getD p i []));
   }

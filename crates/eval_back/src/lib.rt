@@ -5,10 +5,12 @@ use doc_items::COLUMN_SIZE;
 use doc_items::PIECE;
 use doc_items::WIDTH;
 use doc_items::number_at;
+use eval_keys::FIRST;
 use eval_keys::KEYS;
+use eval_keys::NEXT;
 ghost use Prim.Native.Nat.{_<_};
-ghost use Rattle.doc_items.specs.Room.{capacity};
-ghost use Rattle.eval_back.specs.Contracts.{AroundIs, HasKeyIs, LooksBackIs};
+ghost use Rattle.doc_items.specs.Room.{capacity, numberBound};
+ghost use Rattle.eval_back.specs.Contracts.{AroundIs, RootAroundIs, HasKeyIs, Going, LooksBackIs};
 
 // The kind of an object.
 const OBJECT: usize = doc_items::OBJECT;
@@ -39,6 +41,30 @@ pub fn field_around(table: &[u16], literal: usize, item: usize) -> usize
     at
 }
 
+/// The root's field with a key's number in whose span an item stands; 0 if there is none. Only the fields of that key are passed: they are
+/// linked. Links that are right rise, so the walk ends where one does not.
+pub fn root_field_around(table: &[u16], key: usize, item: usize) -> usize
+    requires { ⌜ key < numberBound ⌝ }
+    ensures { λ r. ⌜ RootAroundIs (now (table .entry)) key item r ⌝ }
+{
+    let mut at = number_at(table, FIRST + key);
+    while at != 0 {
+        if item < at {
+            return 0;
+        }
+        let size = number_at(table, WIDTH * at + COLUMN_SIZE);
+        if item < at + size {
+            return at;
+        }
+        let next = number_at(table, NEXT + at);
+        if next <= at {
+            return 0;
+        }
+        at = next;
+    }
+    0
+}
+
 // Whether a key number is among those of a path.
 fn has_key(keys: &[u16], count: usize, key: usize) -> bool
     ensures { λ r. ⌜ HasKeyIs (now (keys .entry)) count key r ⌝ }
@@ -53,30 +79,30 @@ fn has_key(keys: &[u16], count: usize, key: usize) -> bool
     false
 }
 
-// Goes down from the root as long as the fields around an item have a path's elements as their keys. Where that leads to the item itself:
-// how many elements there were; else 0.
-fn descend(table: &[u16], keys: &[u16], count: usize, item: usize) -> usize
-    requires { ⌜ (0 < item) × (item < capacity) ⌝ }
+// Goes down from the root's field around an item, whose key is a path's first element, as long as the fields around the item have the further
+// elements as their keys. Where that leads to the item itself: how many elements there were; else 0.
+fn descend(table: &[u16], keys: &[u16], count: usize, item: usize, field: usize) -> usize
+    requires { ⌜ Going (now table) (now keys) count item field 1 × (item < capacity) ⌝ }
     ensures { λ r. ⌜ LooksBackIs (now (table .entry)) (now (keys .entry)) count item r ⌝ }
 {
-    let mut literal = 0;
-    let mut i = 0;
+    let mut literal = field;
+    let mut i = 1;
     while i < count {
         let kind = number_at(table, WIDTH * literal);
         if kind != OBJECT {
             return 0;
         }
-        let field = field_around(table, literal, item);
-        let key = number_at(table, KEYS + field);
+        let inner = field_around(table, literal, item);
+        let key = number_at(table, KEYS + inner);
         let next = number_at(keys, i);
         if key != next {
             return 0;
         }
         let own = i + 1;
-        if field == item {
+        if inner == item {
             return own;
         }
-        literal = field;
+        literal = inner;
         i = own;
     }
     0
@@ -90,7 +116,15 @@ pub fn looks_back(table: &[u16], keys: &[u16], count: usize, item: usize) -> usi
 {
     let own = number_at(table, KEYS + item);
     if has_key(keys, count, own) {
-        return descend(table, keys, count, item);
+        let first = number_at(keys, 0);
+        let field = root_field_around(table, first, item);
+        if field == 0 {
+            return 0;
+        }
+        if field == item {
+            return 1;
+        }
+        return descend(table, keys, count, item, field);
     }
     0
 }

@@ -4,10 +4,11 @@ use mathlib.Core.List.{List, [], _∷_}
 use Prim.Native.Nat.{ℕ, _+_, _-_, _≤_, _<_}
 use native.Mathlib.Omega.{arith}
 use lib.ListN.{length}
+use borrow.Author.Tests.{lt-ltb, le-ltb}
 use Rattle.doc_items.specs.Room.{numberBound}
 use Rattle.doc_items.specs.Writing.{ReadIs}
 use Rattle.eval_keys.specs.Columns.{firstsAt, nextsAt, firstAt, nextAt}
-use Rattle.eval_root.specs.Links.{Follows, Rises}
+use Rattle.eval_root.specs.Links.{Follows, Rises, itemsBefore, Along, along-end, along-item, item-last, item-next}
 use Rattle.eval_stack.specs.Model.{entries, Work}
 use Rattle.eval_stack.specs.Contracts.{Same}
 use Rattle.eval_stack.specs.Pushes.{seg-none}
@@ -17,16 +18,13 @@ use Rattle.eval_layers.specs.declared.Stuck.{Stuck}
 use Rattle.eval_layers.specs.declared.Walked.{Walked}
 use Rattle.eval_of_root.specs.Contracts.{pushLayersC, OfRootIs}
 
--- the fields from i on are left
-pub record Left (T : List ℕ) (base : ℕ) (w : List ℕ) (walk : Walked) (goal : Walk) (i : ℕ) : Type 0 where
-  pub rest : List ℕ
-  pub follows : Follows (nextAt T) i rest
-  pub rises : Rises 1 rest
-  pub is : pushLayersC T (entries - base) rest (walked w base walk) ≡ goal
+-- what fields come to above the layers so far
+abbrev ofFields : (T : List ℕ) (end base : ℕ) → Walk → List ℕ → Walk
+ofFields T end base v js = pushLayersC T (entries - base) (itemsBefore end js) v
 
-pub record LinksInv (T : List ℕ) (k base : ℕ) (w₀ w : List ℕ) (walk : Walked) (i : ℕ) : Type 0 where
+pub record LinksInv (T : List ℕ) (k end base : ℕ) (w₀ w : List ℕ) (walk : Walked) (i : ℕ) : Type 0 where
   pub left : (js : List ℕ) → Follows (nextAt T) (firstAt T k) js → Rises 1 js
-      → Left T base w walk (pushLayersC T (entries - base) js ([], Stuck.No)) i
+      → Along (nextAt T) (ofFields T end base (walked w base walk)) (ofFields T end base ([], Stuck.No) js) i
   pub small : i < numberBound
   pub same : Same base w₀ w
   pub low : base ≤ walk .top
@@ -34,14 +32,14 @@ pub record LinksInv (T : List ℕ) (k base : ℕ) (w₀ w : List ℕ) (walk : Wa
   pub len : length w ≡ length w₀
   pub work : Work w
 
-pub links-start : {T : List ℕ} {k base : ℕ} {w : List ℕ} {i : ℕ} → base ≤ entries → Work w → ReadIs T (firstsAt + k) i
-    → LinksInv T k base w w (record { top = base; stuck = Stuck.No }) i
-links-start {T} {k} {base} {w} {i} l h x = record {
+pub links-start : {T : List ℕ} {k end base : ℕ} {w : List ℕ} {i : ℕ} → base ≤ entries → Work w → ReadIs T (firstsAt + k) i
+    → LinksInv T k end base w w (record { top = base; stuck = Stuck.No }) i
+links-start {T} {k} {end} {base} {w} {i} l h x = record {
   left = λ js f u. record {
     rest = js;
     follows = rw (x .is) f;
     rises = u;
-    is = ap (λ (cs : List ℕ). pushLayersC T (entries - base) js (cs, Stuck.No)) (seg-none w base);
+    is = ap (λ (cs : List ℕ). ofFields T end base (cs, Stuck.No) js) (seg-none w base);
   };
   small = x .small;
   same = λ j o. refl;
@@ -51,33 +49,7 @@ links-start {T} {k} {base} {w} {i} l h x = record {
   work = h;
 }
 
--- the field that the walk has come to, and the others
-record Next (T : List ℕ) (base : ℕ) (w : List ℕ) (walk : Walked) (goal : Walk) (i : ℕ) : Type 0 where
-  rest : List ℕ
-  follows : Follows (nextAt T) (nextAt T i) rest
-  rises : Rises (i + 1) rest
-  is : pushLayersC T (entries - base) rest (pushLayerC T (entries - base) i (walked w base walk)) ≡ goal
-
-rises-low : (a : ℕ) (js : List ℕ) → 1 ≤ a → Rises a js → Rises 1 js
-rises-low a [] l x = tt
-rises-low a (j ∷ js) l x = let u = x .0 in (omega arith, x .1)
-
-module _ {T : List ℕ} {k base : ℕ} {w₀ w : List ℕ} {walk : Walked} {i : ℕ} (I : LinksInv T k base w₀ w walk i) where
-  next : {goal : Walk} → Left T base w walk goal i → (i ≡ 0 → ⊥) → Next T base w walk goal i
-  unfolding pushLayersC
-  next {goal} L n = go (L .rest) (L .follows) (L .rises) (L .is)
-    where
-      go : (js : List ℕ) → Follows (nextAt T) i js → Rises 1 js → pushLayersC T (entries - base) js (walked w base walk) ≡ goal → Next T base w walk goal i
-      go [] f u e = absurd (n f)
-      go (j ∷ js) f u e =
-          let z : j ≡ i = sym (f .0) in
-          record {
-            rest = js;
-            follows = rw z at (f .2);
-            rises = rw z at (u .1);
-            is = ap (λ (c : ℕ). pushLayersC T (entries - base) js (pushLayerC T (entries - base) c (walked w base walk))) (sym z) ∙ e;
-          }
-
+module _ {T : List ℕ} {k end base : ℕ} {w₀ w : List ℕ} {walk : Walked} {i : ℕ} (I : LinksInv T k end base w₀ w walk i) where
   pub links-small : i < numberBound
   links-small = I .small
 
@@ -90,45 +62,41 @@ module _ {T : List ℕ} {k base : ℕ} {w₀ w : List ℕ} {walk : Walked} {i : 
   pub links-work : Work w
   links-work = I .work
 
-  -- past the last field
-  pub links-end : i ≡ 0 → OfRootIs T k base w₀ w walk
-  unfolding pushLayersC
-  links-end z = record {
-    is = λ js f u. let L = I .left js f u in none (L .rest) (L .follows) (L .is);
-    same = I .same;
-    low = I .low;
-    high = I .high;
-    len = I .len;
-  }
-    where
-      none : {goal : Walk} (js : List ℕ) → Follows (nextAt T) i js → pushLayersC T (entries - base) js (walked w base walk) ≡ goal → walked w base walk ≡ goal
-      none [] f e = e
-      none (j ∷ js) f e = let a = f .0 in let b = f .1 in absurd (omega arith)
+  ended : ((js : List ℕ) → Follows (nextAt T) (firstAt T k) js → Rises 1 js → walked w base walk ≡ ofFields T end base ([], Stuck.No) js)
+      → OfRootIs T k end base w₀ w walk
+  ended is = record { is = is; same = I .same; low = I .low; high = I .high; len = I .len }
 
-  module _ (n : i ≡ 0 → ⊥) {w′ : List ℕ} {r : Walked} {m : ℕ} (g : WalkedIs base w w′ r (pushLayerC T (entries - base) i (walked w base walk)))
-      (x : ReadIs T (nextsAt + i) m) where
-    pub links-last : m ≤ i → OfRootIs T k base w₀ w′ r
-    unfolding pushLayersC
+  -- past the last field
+  pub links-end : i ≡ 0 → OfRootIs T k end base w₀ w walk
+  unfolding pushLayersC itemsBefore
+  links-end z = ended (λ js f u. along-end (nextAt T) (I .left js f u) z)
+
+  -- at a field that stands no longer before the end
+  pub links-past : (i ≡ 0 → ⊥) → end ≤ i → OfRootIs T k end base w₀ w walk
+  unfolding pushLayersC itemsBefore
+  links-past n l = ended (λ js f u. rw (le-ltb i end l) at (along-item (nextAt T) (I .left js f u) n .is))
+
+  module _ (n : i ≡ 0 → ⊥) (below : i < end) {w′ : List ℕ} {r : Walked} {m : ℕ}
+      (g : WalkedIs base w w′ r (pushLayerC T (entries - base) i (walked w base walk))) (x : ReadIs T (nextsAt + i) m) where
+    laid : (js : List ℕ) → ofFields T end base (walked w′ base r) js ≡ ofFields T end base (walked w base walk) (i ∷ js)
+    unfolding pushLayersC itemsBefore
+    laid js = rw (lt-ltb i end below) (ap (λ (v : Walk). ofFields T end base v js) (g .is))
+
+    pub links-last : m ≤ i → OfRootIs T k end base w₀ w′ r
+    unfolding pushLayersC itemsBefore
     links-last l = record {
-      is = λ js f u. let N = next (I .left js f u) n in g .is ∙ none (N .rest) (N .follows) (N .rises) (N .is);
+      is = λ js f u. laid [] ∙ item-last (nextAt T) (along-item (nextAt T) (I .left js f u) n) (let e = x .is in omega arith);
       same = λ j o. g .same j o ∙ I .same j o;
       low = g .low;
       high = g .high;
       len = g .len ∙ I .len;
     }
-      where
-        none : {goal v : Walk} (js : List ℕ) → Follows (nextAt T) (nextAt T i) js → Rises (i + 1) js → pushLayersC T (entries - base) js v ≡ goal → v ≡ goal
-        none [] f u e = e
-        none (j ∷ js) f u e = let a = f .0 in let b = u .0 in let c = x .is in absurd (omega arith)
 
-    pub links-more : i < m → LinksInv T k base w₀ w′ r m
+    pub links-more : i < m → LinksInv T k end base w₀ w′ r m
     links-more l = record {
-      left = λ js f u. let N = next (I .left js f u) n in record {
-        rest = N .rest;
-        follows = rw (x .is) (N .follows);
-        rises = rises-low (i + 1) (N .rest) (omega arith) (N .rises);
-        is = ap (pushLayersC T (entries - base) (N .rest)) (g .is) ∙ N .is;
-      };
+      left = λ js f u.
+          let N = along-item (nextAt T) (I .left js f u) n in
+          rw (x .is) (item-next (nextAt T) (ofFields T end base (walked w′ base r)) N (laid (N .rest)));
       small = x .small;
       same = λ j o. g .same j o ∙ I .same j o;
       low = g .low;
@@ -137,4 +105,4 @@ module _ {T : List ℕ} {k base : ℕ} {w₀ w : List ℕ} {walk : Walked} {i : 
       work = omega (arith, g .len, I .work);
     }
 
-pub ruleset links = (links-start, links-small, links-low, links-high, links-work, links-end, links-last, links-more)
+pub ruleset links = (links-start, links-small, links-low, links-high, links-work, links-end, links-past, links-last, links-more)

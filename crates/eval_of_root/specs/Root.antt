@@ -18,8 +18,8 @@ use Rattle.doc_items.specs.Room.{capacity}
 use Rattle.eval_keys.specs.Columns.{firstAt, nextAt}
 use Rattle.eval_keys.specs.Numbers.{numberOf}
 use Rattle.eval_keys.specs.Uses.{number-small}
-use Rattle.eval_root.specs.Links.{Follows}
-use Rattle.eval_root.specs.Documents.{placesOf, places-rise, Keyed}
+use Rattle.eval_root.specs.Links.{Follows, itemsBefore, every-map, before-all}
+use Rattle.eval_root.specs.Documents.{placesOf, places-rise, places-inside, Keyed}
 use Rattle.eval_stack.specs.Model.{entries}
 use Rattle.eval_tables.specs.Finished.{Memory}
 use Rattle.eval_tables.specs.Tables.{Number, as-member, Tables, match-length}
@@ -32,11 +32,12 @@ use Rattle.eval_layers.specs.declared.Walked.{Walked}
 use Rattle.eval_of_root.specs.Contracts.{pushLayersC, OfRootIs}
 
 module _ (M : Memory) (known : ℕ → Option Answer) (tables : Tables M known) where
-  abbrev itemsOf : Text → (fs : Fields) (i end : ℕ) → FieldsIn M i end fs → List ℕ
+  abbrev pub itemsOf : Text → (fs : Fields) (i end : ℕ) → FieldsIn M i end fs → List ℕ
   itemsOf = placesOf (numbers (M .table)) (letters 0 (M .bytes)) 0 (M .ends) (Number M)
 
+  -- fields laid one above the other where their key is a text
   module _ (t : Text) (r end : ℕ) (high : end ≤ M .items) where
-    fields-laid : (fs : Fields) (i : ℕ) (s : FieldsIn M i end fs) (w : Walk) (u : Settled) → WalkShows M w u
+    pub fields-laid : (fs : Fields) (i : ℕ) (s : FieldsIn M i end fs) (w : Walk) (u : Settled) → WalkShows M w u
         → weigh known (u .0) + weightOfFields known fs ≤ r → WalkShows M (pushLayersC (M .table) r (itemsOf t fs i end s) w) (namedIn known t fs u)
     unfolding placesOf pushLayersC namedIn weightOf
     fields-laid no-fields i s w u m l = m
@@ -57,19 +58,22 @@ module _ (M : Memory) (known : ℕ → Option Answer) (tables : Tables M known) 
             (omega (arith, node-pushed known n u))
         go false ih = ih w u m (omega arith)
 
-  -- `of_root` of a text's number gives numbers that show the layers one key below the root
+  -- all of them: `of_root` of a text's number gives numbers that show the layers one key below the root
   pub of-root-shows : {items : ℕ} (root : Root) → Keyed (M .bytes) (M .table) items (M .ends) (Number M) root → M .items ≡ items + 1
       → (t : Text) {k base : ℕ} {w w′ : List ℕ} {r : Walked} → k ≡ numberOf (M .bytes) (M .table) (M .items) t
-      → OfRootIs (M .table) k base w w′ r → weigh known (written (rootNode root) ∷ []) ≤ suc (entries - base)
+      → OfRootIs (M .table) k capacity base w w′ r → weigh known (written (rootNode root) ∷ []) ≤ suc (entries - base)
       → WalkShows M (walked w′ base r) (deeperIn known t (written (rootNode root) ∷ []) no)
-  unfolding deeperIn insideIn weightOf pushLayersC
+  unfolding deeperIn insideIn weightOf pushLayersC itemsBefore
   of-root-shows {items} (fields fs) K e t {k} {base} {w} {w′} {r} f x l =
       let s = K .shown .1 in
       let js = itemsOf t fs (0 + 1) (0 + numbers (M .table) 1) s in
       let g : k ≡ numberOf (M .bytes) (M .table) (items + 1) t = f ∙ ap (λ (n : ℕ). numberOf (M .bytes) (M .table) n t) e in
       let h : Follows (nextAt (M .table)) (firstAt (M .table) k) js = rw g (K .linked s t) in
+      let all : itemsBefore capacity js ≡ js = before-all capacity js (every-map (λ j u. omega (arith, K .whole, tables .stored .few)) js
+      (places-inside (numbers (M .table)) (letters 0 (M .bytes)) 0 (M .ends) (Number M) t fs (0 + 1) (0 + numbers (M .table) 1) s)) in
       subst (λ (v : Walk). WalkShows M v (namedIn known t fs ([], no)))
-      (sym (x .is js h (places-rise (numbers (M .table)) (letters 0 (M .bytes)) 0 (M .ends) (Number M) t fs (0 + 1) (0 + numbers (M .table) 1) s)))
+      (sym (x .is js h (places-rise (numbers (M .table)) (letters 0 (M .bytes)) 0 (M .ends) (Number M) t fs (0 + 1) (0 + numbers (M .table) 1) s)
+      ∙ ap (λ (cs : List ℕ). pushLayersC (M .table) (entries - base) cs ([], Stuck.No)) all))
       (fields-laid t (entries - base) (0 + numbers (M .table) 1) (omega (arith, K .whole)) fs (0 + 1) s ([], Stuck.No) ([], no) (tt, tt) (omega arith))
   of-root-shows {items} (elements es) K e t {k} {base} {w} {w′} {r} f x l =
       let small : k < capacity = rw f (let n = number-small (M .bytes) (M .table) (M .items) t (omega arith) in omega (arith, tables .stored .few)) in

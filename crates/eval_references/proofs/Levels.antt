@@ -8,54 +8,55 @@ use Rattle.doc_items.specs.Writing.{ReadIs}
 use Rattle.eval_members.specs.Model.{membersOf}
 use Rattle.eval_stack.specs.Model.{entries, Work, seg-length}
 use Rattle.eval_stack.specs.Contracts.{Same}
-use Rattle.eval_stack.specs.Pushes.{seg-none, same-lower}
+use Rattle.eval_stack.specs.Pushes.{same-lower}
 use Rattle.eval_layers.specs.Model.{Walk, pushMembersC}
 use Rattle.eval_layers.specs.Contracts.{walked, WalkedIs, DeeperIs}
 use Rattle.eval_layers.specs.declared.Part.{Part}
 use Rattle.eval_layers.specs.declared.Stuck.{Stuck}
 use Rattle.eval_layers.specs.declared.Walked.{Walked}
 use Rattle.eval_back.specs.Contracts.{AroundIs}
-use Rattle.eval_references.specs.Model.{levelC, Levels, level-none, level-more}
+use Rattle.eval_references.specs.Model.{levelC, Levels, level-more}
 use Rattle.eval_references.specs.Contracts.{partOf, BeforeIs}
 
 -- so many levels are done
-pub record LevelsInv (T R keys : List ℕ) (item base : ℕ) (w₀ w : List ℕ) (literal i : ℕ) (part : Part) : Type 0 where
-  pub levels : Levels T R keys item base literal i (part .lo) (partOf w part)
-  pub steps : i ≤ literal
+pub record LevelsInv (T R keys : List ℕ) (item field : ℕ) (root : Part) (w₀ w : List ℕ) (literal i : ℕ) (part : Part) : Type 0 where
+  pub levels : (base : ℕ) → Levels T R keys item base field 1 (root .lo) (partOf w₀ root) → Levels T R keys item base literal i (part .lo) (partOf w part)
+  pub steps : i ≤ literal + 1
   pub upto : literal ≤ item
-  pub same : Same base w₀ w
-  pub above : base ≤ part .lo
+  pub same : Same (root .hi) w₀ w
+  pub above : root .hi ≤ part .hi
   pub low : part .lo ≤ part .hi
   pub high : part .hi ≤ entries
   pub len : length w ≡ length w₀
   pub room : Work w
 
-module _ {T R keys : List ℕ} {item base : ℕ} {w : List ℕ} where
-  pub levels-start : Work w → base ≤ entries → LevelsInv T R keys item base w w 0 0 (record { lo = base; hi = base; stuck = Stuck.No })
-  levels-start room l = record {
-    levels = subst (λ (x : List ℕ). Levels T R keys item base 0 0 base (x, Stuck.No)) (sym (seg-none w base)) level-none;
-    steps = omega arith;
-    upto = omega arith;
-    same = λ i o. refl;
-    above = omega arith;
-    low = omega arith;
-    high = l;
-    len = refl;
-    room = room;
-  }
+pub levels-start : {T R keys : List ℕ} {item field : ℕ} {root : Part} {w : List ℕ} → Work w → root .lo ≤ root .hi → root .hi ≤ entries → field ≤ item
+    → LevelsInv T R keys item field root w w field 1 root
+levels-start room low high upto = record {
+  levels = λ base L. L;
+  steps = omega arith;
+  upto = upto;
+  same = λ i o. refl;
+  above = omega arith;
+  low = low;
+  high = high;
+  len = refl;
+  room = room;
+}
 
 pub levels-work : {T R : List ℕ} {lo hi : ℕ} {st : Stuck} {base k : ℕ} {w w′ : List ℕ} {r : Walked} → Work w
     → DeeperIs T R lo hi st base k w w′ r → Work w′
 levels-work room d = let e = d .is .len in omega (arith, room)
 
-module _ {T R keys : List ℕ} {item base : ℕ} {w₀ w : List ℕ} {literal i : ℕ} {part : Part} (I : LevelsInv T R keys item base w₀ w literal i part) where
-  pub levels-end : item ≤ literal → BeforeIs T R keys item base w₀ w part
+module _ {T R keys : List ℕ} {item field : ℕ} {root : Part} {w₀ w : List ℕ} {literal i : ℕ} {part : Part}
+    (I : LevelsInv T R keys item field root w₀ w literal i part) where
+  pub levels-end : item ≤ literal → BeforeIs T R keys item field root w₀ w part
   levels-end m =
       let e : literal ≡ item = omega (arith, I .upto) in
       record {
         count = i;
-        levels = subst (λ (l : ℕ). Levels T R keys item base l i (part .lo) (partOf w part)) e (I .levels);
-        part = record { same = I .same; above = omega (arith, I .above, I .low); low = I .low; high = I .high; len = I .len };
+        levels = λ base L. subst (λ (l : ℕ). Levels T R keys item base l i (part .lo) (partOf w part)) e (I .levels base L);
+        part = record { same = I .same; above = I .above; low = I .low; high = I .high; len = I .len };
       }
 
   module _ {at key : ℕ} {w₁ w₂ : List ℕ} {below walk : Walked} (l : literal < item) (a : AroundIs T literal item at) (r : ReadIs keys i key)
@@ -74,18 +75,19 @@ module _ {T R keys : List ℕ} {item base : ℕ} {w₀ w : List ℕ} {literal i 
         ∙ ap (λ (k : ℕ). levelC T R k (entries - part .hi) (literal + 1) at (partOf w part)) (r .is)
         ∙ ap (λ (n : ℕ). levelC T R (getD keys i 0) (entries - n) (literal + 1) at (partOf w part)) (sym stands)
 
-    pub levels-turn : LevelsInv T R keys item base w₀ w₂ at (i + 1) next
+    pub levels-turn : LevelsInv T R keys item field root w₀ w₂ at (i + 1) next
     levels-turn =
-        let deep : Levels T R keys item base at (i + 1) (part .lo + length (partOf w part .0)) (partOf w₂ next) =
-        subst (λ (y : Walk). Levels T R keys item base at (i + 1) (part .lo + length (partOf w part .0)) y) (sym is-level) (level-more (I .levels) l a) in
         let above = I .above in
-        let low = I .low in
         record {
-          levels = subst (λ (n : ℕ). Levels T R keys item base at (i + 1) n (partOf w₂ next)) stands deep;
+          levels = λ base L.
+              let deep : Levels T R keys item base at (i + 1) (part .lo + length (partOf w part .0)) (partOf w₂ next) =
+              subst (λ (y : Walk). Levels T R keys item base at (i + 1) (part .lo + length (partOf w part .0)) y) (sym is-level)
+              (level-more (I .levels base L) l a) in
+              subst (λ (n : ℕ). Levels T R keys item base at (i + 1) n (partOf w₂ next)) stands deep;
           steps = omega (arith, I .steps, a .past);
           upto = a .upto;
-          same = λ j o. same-lower w₁ w₂ (x .same) base (omega arith) j o ∙ same-lower w w₁ (d .is .same) base (omega arith) j o ∙ I .same j o;
-          above = omega arith;
+          same = λ j o. same-lower w₁ w₂ (x .same) (root .hi) above j o ∙ same-lower w w₁ (d .is .same) (root .hi) above j o ∙ I .same j o;
+          above = omega (arith, x .low);
           low = x .low;
           high = x .high;
           len = x .len ∙ d .is .len ∙ I .len;

@@ -3,6 +3,7 @@ use mathlib.Core.Path.{_≡_}
 use Prim.Native.Nat.{ℕ, _-_, _≤_, _<_}
 use mathlib.Core.List.{List}
 use lib.ListN.{length, getD}
+use Rattle.doc_items.specs.Room.{capacity}
 use Rattle.eval_stack.specs.Model.{entries, seg}
 use Rattle.eval_stack.specs.Contracts.{Same}
 use Rattle.eval_layers.specs.Model.{Walk}
@@ -28,10 +29,11 @@ pub record PartAbove (base : ℕ) (w w′ : List ℕ) (r : Part) : Type 0 where
   pub high : r .hi ≤ entries
   pub len : length w′ ≡ length w
 
-pub record BeforeIs (T R keys : List ℕ) (item base : ℕ) (w w′ : List ℕ) (r : Part) : Type 0 where
+-- from the layers of the root's field on, all levels down to the item
+pub record BeforeIs (T R keys : List ℕ) (item field : ℕ) (root : Part) (w w′ : List ℕ) (r : Part) : Type 0 where
   pub count : ℕ
-  pub levels : Levels T R keys item base item count (r .lo) (partOf w′ r)
-  pub part : PartAbove base w w′ r
+  pub levels : (base : ℕ) → Levels T R keys item base field 1 (root .lo) (partOf w root) → Levels T R keys item base item count (r .lo) (partOf w′ r)
+  pub part : PartAbove (root .hi) w w′ r
 
 -- what stands from lo on, with the room that there is for it
 abbrev pub fromWalk : ℕ → Walk → Layered
@@ -41,7 +43,7 @@ fromWalk lo x = record { room = entries - lo; layers = x .0; stuck = x .1 }
 pub data LayersC (T R keys : List ℕ) (count item base : ℕ) : Layered → Type 0 where
   looking-back : {own n lo : ℕ} {x : Walk} → LooksBackIs T keys count item own → 0 < own → Levels T R keys item base item n lo x
       → LayersC T R keys count item base (walkPathC T R keys (count - own) own (fromWalk lo x))
-  looking-forward : {w w′ : List ℕ} {r : Walked} → LooksBackIs T keys count item 0 → OfRootIs T (getD keys 0 0) base w w′ r
+  looking-forward : {w w′ : List ℕ} {r : Walked} → LooksBackIs T keys count item 0 → OfRootIs T (getD keys 0 0) capacity base w w′ r
       → LayersC T R keys count item base (walkPathC T R keys (count - 1) 1 (fromWalk base (walked w′ base r)))
 
 pub record LayersForIs (T R keys : List ℕ) (count item base : ℕ) (w w′ : List ℕ) (r : Part) : Type 0 where

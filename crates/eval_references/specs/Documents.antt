@@ -9,14 +9,17 @@ use Rattle.rules.specs.Tree.{unresolved, Pieces, Root, fields, elements, rootNo
 use Rattle.doc_items.specs.Codes.{unresolvedItem, asMember, kindAt, sizeAt, numberAt}
 use Rattle.doc_items.specs.Holds.{NodeAt}
 use Rattle.doc_items.specs.Parts.{numbers, letters}
+use Rattle.doc_items.specs.Room.{capacity}
 use Rattle.theory_back.specs.Numbers.{FromNode}
 use Rattle.eval_keys.specs.Texts.{by-less}
 use Rattle.eval_keys.specs.Numbers.{numberOf}
+use Rattle.eval_keys.specs.Uses.{number-small}
 use Rattle.eval_routes.specs.Elements.{KeysOf}
-use Rattle.eval_root.specs.Documents.{Keyed}
+use Rattle.eval_root.specs.Documents.{RootLinked, Keyed}
 use Rattle.eval_tables.specs.Keys.{Means, number-means}
 use Rattle.eval_tables.specs.Finished.{Memory, Stored}
 use Rattle.eval_tables.specs.Tables.{Number, WrittenAt}
+use Rattle.eval_back.specs.Roots.{FirstFields}
 use Rattle.eval_back.specs.Contracts.{PathIs, AskedAt}
 use Rattle.eval_back.specs.Uses as uses
 
@@ -75,9 +78,26 @@ module _ (M : Memory) (S : Stored M) {root : Root} (D : Standing M root) where
   pub asked-at : {item : ℕ} → UnresolvedAt M item → AskedAt (M .table) item (letters 0 (M .bytes)) 0 (M .ends) (M .answered) root
   asked-at u = record { shown = D .keyed .shown; from = D .from; kind = u .kind; inside = omega (arith, whole, u .inside) }
 
+  -- from the number of a text on come the root's fields with that key
+  pub first-fields : {k : ℕ} (t : Text) → k ≡ numberOf (M .bytes) (M .table) (M .items) t
+      → FirstFields (M .table) k (letters 0 (M .bytes)) 0 (M .ends) (M .answered) t root
+  first-fields {k} t e = go root (D .keyed .linked)
+    where
+      is : k ≡ numberOf (M .bytes) (M .table) (D .items + 1) t
+      is = e ∙ ap (λ (n : ℕ). numberOf (M .bytes) (M .table) n t) (D .all)
+
+      small : k < capacity
+      small = let l = number-small (M .bytes) (M .table) (M .items) t (omega (arith, D .all)) in omega (arith, e, S .few)
+
+      go : (r : Root) → RootLinked (M .bytes) (M .table) (D .items) (M .ends) (Number M) r
+          → FirstFields (M .table) k (letters 0 (M .bytes)) 0 (M .ends) (M .answered) t r
+      go (fields fs) l = λ s. rw is (l s t)
+      go (elements es) l = l k small
+
   module _ {keys : List ℕ} {count : ℕ} {p : List Text} (P : PathNumbers M keys count p) where
-    pub path-tells : PathIs (M .table) keys count (letters 0 (M .bytes)) 0 (M .ends) p
-    path-tells = uses.path-is (S .numbered) (S .document) whole (P .long) (path-number P)
+    pub path-tells : PathIs (M .table) keys count (letters 0 (M .bytes)) 0 (M .ends) (M .answered) root p
+    path-tells =
+        uses.path-is (S .numbered) (S .document) whole (P .long) (path-number P) (λ l. first-fields (getD p 0 []) (path-number P 0 l))
 
     pub path-means : (i : ℕ) → i < length p → Means (M .key) (M .table) (M .items) (getD keys i 0) (getD p i [])
     path-means i l =

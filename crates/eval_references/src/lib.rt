@@ -2,12 +2,13 @@
 // those of the whole root.
 // Computes: Unresolved (layersFor)
 use codes::limits;
+use doc_items::CAPACITY;
 use doc_items::number_at;
 use eval_back::field_around;
 use eval_back::looks_back;
+use eval_back::root_field_around;
 use eval_deeper::deeper;
 use eval_layers::Part;
-use eval_layers::Stuck;
 use eval_layers::push_members_named;
 use eval_of_root::of_root;
 use eval_paths::walk_path;
@@ -19,41 +20,38 @@ ghost use Rattle.eval_members.specs.Contracts.{Few};
 ghost use Rattle.eval_stack.specs.Model.{entries, Work};
 ghost use Rattle.eval_references.specs.Contracts.{BeforeIs, LayersForIs, PathLayersIs};
 
-// The layers before the field whose whole value an item is, from base on, of a path that looks back there. From the root down to it: one
-// key deeper than the layers so far, and above them the literal's earlier fields of that key.
+// The layers before the field whose whole value an item is, of a path that looks back there: from those of the root's field around the item on,
+// level by level, one key deeper than the layers so far, and above them the literal's earlier fields of that key.
 fn before(
     table: &[u16],
     records: &[u8],
     work: &mut [u16],
-    base: usize,
+    root: Part,
     keys: &[u16],
     item: usize,
+    field: usize,
 ) -> Part
-    requires { ⌜ Few (now records) × Work (now work) × (base ≤ entries) × (item < capacity) ⌝ }
-    ensures { λ r. ⌜ BeforeIs (now (table .entry)) (now (records .entry)) (now (keys .entry)) item base (now (work .entry))
+    requires { ⌜ Few (now records) × Work (now work) × (root .lo ≤ root .hi) × (root .hi ≤ entries) × (field ≤ item) × (item < capacity) ⌝ }
+    ensures { λ r. ⌜ BeforeIs (now (table .entry)) (now (records .entry)) (now (keys .entry)) item field root (now (work .entry))
         (now (work .exit)) r ⌝ }
 {
-    let mut literal = 0;
-    let mut i = 0;
-    let mut part = Part {
-        lo: base,
-        hi: base,
-        stuck: Stuck::No,
-    };
+    let mut literal = field;
+    let mut i = 1;
+    let mut part = root;
     while literal < item {
-        let field = field_around(table, literal, item);
+        let inner = field_around(table, literal, item);
         let key = number_at(keys, i);
         let hi = part.hi;
         let below = deeper(table, records, work, part, hi, key);
         let first = literal + 1;
-        let walk = push_members_named(table, records, work, hi, below, key, first, field);
+        let walk = push_members_named(table, records, work, hi, below, key, first, inner);
         let stuck = walk.stuck;
         part = Part {
             lo: hi,
             hi: walk.top,
             stuck,
         };
-        literal = field;
+        literal = inner;
         i += 1;
     }
     part
@@ -75,12 +73,20 @@ pub fn layers_for(
         (now (work .exit)) r ⌝ }
 {
     let own = looks_back(table, keys, count, item);
+    let first = number_at(keys, 0);
     if 0 < own {
-        let part = before(table, records, work, base, keys, item);
+        let field = root_field_around(table, first, item);
+        let walk = of_root(table, work, base, first, field);
+        let stuck = walk.stuck;
+        let root = Part {
+            lo: base,
+            hi: walk.top,
+            stuck,
+        };
+        let part = before(table, records, work, root, keys, item, field);
         return walk_path(table, records, work, part, keys, count, own);
     }
-    let first = number_at(keys, 0);
-    let walk = of_root(table, work, base, first);
+    let walk = of_root(table, work, base, first, CAPACITY);
     let stuck = walk.stuck;
     let part = Part {
         lo: base,

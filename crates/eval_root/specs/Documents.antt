@@ -79,6 +79,19 @@ module _ (g h : ℕ → ℕ) (lo hi : ℕ) (N : ℕ → ℕ → Type 0) where
       go j rest a r true = (a, r)
       go j rest a r false = rises-less i (j + 1) rest (omega arith) r
 
+  -- and stand before the end
+  pub places-inside : (t : Text) (fs : Fields) (i end : ℕ) (s : FieldsAt g h lo hi N i end fs) → Every (λ j. j < end) (placesOf t fs i end s)
+  unfolding placesOf
+  places-inside t no-fields i end s = tt
+  places-inside t (field k n fs) i end s =
+      let a = s .2 .0 in
+      let b = s .2 .1 in
+      go (s .0) (placesOf t fs (s .0 + g (8 * s .0 + 1)) end (s .6)) (omega arith) (places-inside t fs (s .0 + g (8 * s .0 + 1)) end (s .6)) (same (k .text) t)
+    where
+      go : (j : ℕ) (rest : List ℕ) → j < end → Every (λ m. m < end) rest → (b : Bool) → Every (λ m. m < end) (cond b (j ∷ rest) rest)
+      go j rest a r true = (a, r)
+      go j rest a r false = r
+
 -- ---- a document whose keys are numbered and linked
 
 module _ {X T : List ℕ} {n hi : ℕ} (N : Numbered X T n) (room : hi ≤ length X) (M : ℕ → ℕ → Type 0) where

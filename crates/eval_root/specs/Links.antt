@@ -5,8 +5,8 @@ use mathlib.Core.Bool.{Bool, true, false, cond}
 use mathlib.Core.List.{List, [], _∷_}
 use Prim.Native.Nat.{ℕ, _+_, _*_, _≤_, _<_}
 use native.Mathlib.Omega.{arith}
-use lib.Dec.{eqb}
-use borrow.Author.Tests.{eq-eqb, ne-eqb}
+use lib.Dec.{eqb, ltb}
+use borrow.Author.Tests.{eq-eqb, ne-eqb, lt-ltb, le-ltb}
 use Rattle.doc_items.specs.Room.{capacity}
 use Rattle.eval_keys.specs.Texts.{by-equal}
 use Rattle.eval_keys.specs.Columns.{firstAt, nextAt}
@@ -52,6 +52,11 @@ Falls b (d ∷ ds) = (d < b) × Falls d ds
 abbrev pub Rises : ℕ → List ℕ → Type 0
 Rises b [] = Unit {0}
 Rises b (j ∷ js) = (b ≤ j) × Rises (j + 1) js
+
+-- of items that rise, those before another
+unfoldable pub itemsBefore : ℕ → List ℕ → List ℕ
+itemsBefore end [] = []
+itemsBefore end (j ∷ js) = cond (ltb j end) (j ∷ itemsBefore end js) []
 
 -- ---- lists
 
@@ -113,16 +118,65 @@ pub rises-less : (a b : ℕ) (js : List ℕ) → a ≤ b → Rises b js → Rise
 rises-less a b [] l x = tt
 rises-less a b (j ∷ js) l x = let u = x .0 in (omega arith, x .1)
 
--- so links rise, up to 0 at the end: a walk along them ends by itself
-pub follows-rises : (nx : ℕ → ℕ) (q b : ℕ) (js : List ℕ) → Follows nx q js → Rises b js → (q ≡ 0 → ⊥) → nx q ≤ q → nx q ≡ 0
-follows-rises nx q b [] f x d l = absurd (d f)
-follows-rises nx q b (j ∷ []) f x d l = ap nx (f .0) ∙ f .2
-follows-rises nx q b (j ∷ (i ∷ js)) f x d l =
-    let e : q ≡ j = f .0 in
-    let h : nx j ≡ i = f .2 .0 in
-    let r : j + 1 ≤ i = x .1 .0 in
-    let s : nx q ≡ nx j = ap nx e in
-    absurd (omega arith)
+pub before-all : (end : ℕ) (js : List ℕ) → Every (λ j. j < end) js → itemsBefore end js ≡ js
+unfolding itemsBefore
+before-all end [] x = refl
+before-all end (j ∷ js) x = rw (lt-ltb j end (x .0)) (ap (λ (l : List ℕ). j ∷ l) (before-all end js (x .1)))
+
+pub before-none : (end b : ℕ) (js : List ℕ) → end ≤ b → Rises b js → itemsBefore end js ≡ []
+unfolding itemsBefore
+before-none end b [] l x = refl
+before-none end b (j ∷ js) l x = let u = x .0 in rw (le-ltb j end (omega arith)) refl
+
+-- ---- a walk along links
+
+module _ {A : Type 0} (nx : ℕ → ℕ) where
+  -- it has come to an item, and what is still to be made of the items left is what was to be made of all
+  pub record Along (of : List ℕ → A) (goal : A) (i : ℕ) : Type 0 where
+    pub rest : List ℕ
+    pub follows : Follows nx i rest
+    pub rises : Rises 1 rest
+    pub is : of rest ≡ goal
+
+  -- the same at an item, with those behind it
+  pub record AtItem (of : List ℕ → A) (goal : A) (i : ℕ) : Type 0 where
+    pub rest : List ℕ
+    pub follows : Follows nx (nx i) rest
+    pub rises : Rises (i + 1) rest
+    pub is : of (i ∷ rest) ≡ goal
+
+  module _ {of : List ℕ → A} {goal : A} {i : ℕ} where
+    pub along-end : Along of goal i → i ≡ 0 → of [] ≡ goal
+    along-end L z = go (L .rest) (L .follows) (L .is)
+      where
+        go : (js : List ℕ) → Follows nx i js → of js ≡ goal → of [] ≡ goal
+        go [] f e = e
+        go (j ∷ js) f e = let a = f .0 in let b = f .1 in absurd (omega arith)
+
+    pub along-item : Along of goal i → (i ≡ 0 → ⊥) → AtItem of goal i
+    along-item L n = go (L .rest) (L .follows) (L .rises) (L .is)
+      where
+        go : (js : List ℕ) → Follows nx i js → Rises 1 js → of js ≡ goal → AtItem of goal i
+        go [] f u e = absurd (n f)
+        go (j ∷ js) f u e =
+            let z : j ≡ i = sym (f .0) in
+            record { rest = js; follows = rw z at (f .2); rises = rw z at (u .1); is = ap (λ (c : ℕ). of (c ∷ js)) (sym z) ∙ e }
+
+    -- links that are right rise, up to 0 at the end: the walk ends where one does not
+    pub item-last : AtItem of goal i → nx i ≤ i → of (i ∷ []) ≡ goal
+    item-last N l = go (N .rest) (N .follows) (N .rises) (N .is)
+      where
+        go : (js : List ℕ) → Follows nx (nx i) js → Rises (i + 1) js → of (i ∷ js) ≡ goal → of (i ∷ []) ≡ goal
+        go [] f u e = e
+        go (j ∷ js) f u e = let a = f .0 in let b = u .0 in absurd (omega arith)
+
+    pub item-next : (of′ : List ℕ → A) (N : AtItem of goal i) → of′ (N .rest) ≡ of (i ∷ N .rest) → Along of′ goal (nx i)
+    item-next of′ N e = record {
+      rest = N .rest;
+      follows = N .follows;
+      rises = rises-less 1 (i + 1) (N .rest) (omega arith) (N .rises);
+      is = e ∙ N .is;
+    }
 
 -- ---- one item of the first pass
 

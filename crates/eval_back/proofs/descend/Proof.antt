@@ -1,15 +1,16 @@
 -- laws: looks
-use Rattle.eval_back.proofs.Looking.{Going, looks}
+use Rattle.eval_back.proofs.Looking.{looks}
+use Rattle.eval_back.specs.Contracts.{Going}
 use Prim.Native.Nat.{_-_}
 use borrow.Author.Needs.{needs}
 use Rattle.eval_back.proofs.descend.Statement.{statement}
 use Rattle.eval_back.proofs.descend.Tie as tie
 
 abbrev Inv-loop : tie.InvT-loop
-Inv-loop table ks count item literal₀ i₀ literal i = Going table ks count item literal i
+Inv-loop table ks count item field literal₀ i₀ literal i = Going table ks count item literal i
 
 abbrev μ-loop : tie.MeasureT-loop
-μ-loop table ks count item literal₀ i₀ literal i = count - i
+μ-loop table ks count item field literal₀ i₀ literal i = count - i
 
 pub descend-spec : {M : Type 1} → statement M
 descend-spec =

@@ -7,10 +7,10 @@ use Rattle.eval_of_root.proofs.of_root.Statement.{statement}
 use Rattle.eval_of_root.proofs.of_root.Tie as tie
 
 abbrev Inv-loop : tie.InvT-loop
-Inv-loop table work₀ base key i₀ walk₀ work i walk = LinksInv table key base work₀ work walk i
+Inv-loop table work₀ base key end i₀ walk₀ work i walk = LinksInv table key end base work₀ work walk i
 
 abbrev μ-loop : tie.MeasureT-loop
-μ-loop table work₀ base key i₀ walk₀ work i walk = numberBound - i
+μ-loop table work₀ base key end i₀ walk₀ work i walk = numberBound - i
 
 pub of-root-spec : {M : Type 1} → statement M
 of-root-spec =
@@ -20,6 +20,8 @@ of-root-spec =
     μ-loop
     (λ c. search needs)
     (λ c κs. search needs)
+    (λ c. search links)
+    (λ c. search needs)
     (λ c. search links)
     (λ c κs. search needs)
     (λ c. search needs)

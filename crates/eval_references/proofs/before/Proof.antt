@@ -6,10 +6,10 @@ use Rattle.eval_references.proofs.before.Statement.{statement}
 use Rattle.eval_references.proofs.before.Tie as tie
 
 abbrev Inv-loop : tie.InvT-loop
-Inv-loop table records work₀ base keys item literal₀ i₀ part₀ work literal i part = LevelsInv table records keys item base work₀ work literal i part
+Inv-loop table records work₀ keys item field literal₀ i₀ part₀ work literal i part = LevelsInv table records keys item field part₀ work₀ work literal i part
 
 abbrev μ-loop : tie.MeasureT-loop
-μ-loop table records work₀ base keys item literal₀ i₀ part₀ work literal i part = item - literal
+μ-loop table records work₀ keys item field literal₀ i₀ part₀ work literal i part = item - literal
 
 pub before-spec : {M : Type 1} → statement M
 before-spec =
@@ -22,7 +22,7 @@ before-spec =
     (λ c κs. search needs)
     (λ c κs. search needs)
     (λ c. search needs)
-    (λ c κs. search needs)
+    (λ c κs. search (needs, levels))
     (λ c. search needs)
     (λ c. search needs)
     (λ c. search levels)
