@@ -42,6 +42,10 @@ pub fn all() -> Vec<Document> {
         ),
         ("150 times `a=${?a}{k=1}`", "a=${?a}{k=1}\n".repeat(150)),
         (
+            "240 look-backs in one object of 600 other fields",
+            format!("o={{{},{}}}", members(600, numbered("f", "1")), members(240, |_| "l=${?o.l}1".to_string())),
+        ),
+        (
             "200 paths of 16 elements into an answer",
             format!("p={}1{},o=${{p}},", "{a=".repeat(15), "}".repeat(15))
                 + &members(200, |i| format!("r{i}=${{o{}}}", ".a".repeat(15))),

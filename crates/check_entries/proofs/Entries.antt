@@ -10,13 +10,13 @@ use lib.Seq.{length-take-le}
 use Rattle.answers.specs.Ask.{Trail, lookup, value, run}
 use Rattle.answers.specs.Theory.Sound.{clash}
 use Rattle.rules.specs.Bytes.{Text}
-use Rattle.rules.specs.Sizes.{maxRecords, maxRoom}
+use Rattle.rules.specs.Sizes.{maxRecords}
 use Rattle.rules.specs.Values.{Answer, recordSize, textSize}
 use Rattle.rules.specs.Documents.{Setting, ruleOf}
 use Rattle.rules.specs.Sheet.{texts, entryRecord, answerTexts, entrySize, answerTextSize, trailSize, trailTextSize}
 use Rattle.theory.specs.Layout.{length-texts}
 use Rattle.theory_check.specs.Begins.{EntryAt}
-use Rattle.theory_check.specs.Steps.{CheckAt, nextNumber, check-more, check-differs, check-over, check-text-over}
+use Rattle.theory_check.specs.Steps.{nextNumber, check-more, check-differs, check-over, check-text-over}
 use Rattle.text_chars.specs.Parts.{part, part-is, part-length}
 use Rattle.sheet_kept.specs.Kept.{Held, named}
 use Rattle.sheet_kept.specs.Sizes.{kept-records}
@@ -24,7 +24,6 @@ use Rattle.eval_writer.specs.Contracts.{InRoom}
 use Rattle.eval_writer.specs.declared.Out.{Out}
 use Rattle.eval_finished.specs.Contracts.{Full}
 use Rattle.eval_compared.specs.Contracts.{EntryAsked, SameEntryIs, SameUndefinedIs}
-use Rattle.eval_state.specs.State.{State}
 use Rattle.eval_state.specs.Contracts as kept
 use Rattle.check_entries.specs.Contracts.{Right, Open, AnswerAsked, AnswerIs, UndefinedAsked, UndefinedIs}
 use Rattle.check_entries.specs.declared.Reached.{Reached}

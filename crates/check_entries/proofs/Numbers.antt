@@ -1,23 +1,20 @@
 -- Laws of the next number.
-use mathlib.Core.Path.{_≡_, refl, sym, ap, subst, _∙_}
+use mathlib.Core.Path.{_≡_, refl, sym, ap, _∙_}
 use Prim.Native.Nat.{ℕ, _+_, _≤_, _<_}
 use mathlib.Core.List.{List}
 use mathlib.Core.Option.{Option, none, some}
 use native.Mathlib.Omega.{arith}
 use lib.ListN.{length, getD}
 use Rattle.answers.specs.Ask.{Trail, lookup}
-use Rattle.rules.specs.Bytes.{Text}
-use Rattle.rules.specs.Sizes.{maxUnresolved, maxRoom}
 use Rattle.rules.specs.Values.{Answer}
-use Rattle.rules.specs.Documents.{Setting, countOf}
 use Rattle.rules.specs.Sheet.{pairAt, trailSize}
-use Rattle.theory_check.specs.Steps.{CheckAt, nextNumber, check-twice, check-past, check-short}
+use Rattle.theory_check.specs.Steps.{nextNumber, check-twice, check-past, check-short}
 use Rattle.doc_items.specs.Room.{answersAt}
 use Rattle.doc_items.specs.Writing.{ReadIs}
 use Rattle.sheet_kinds.specs.Contracts.{PairIs, Lent}
 use Rattle.eval_tables.specs.Finished.{Memory}
 use Rattle.eval_state.specs.Memories.{answersOf}
-use Rattle.eval_state.specs.State.{AnswerIn, State}
+use Rattle.eval_state.specs.State.{AnswerIn}
 use Rattle.check_entries.specs.Contracts.{NextAsked, NextIs}
 use Rattle.check_entries.specs.declared.Next.{Next}
 

@@ -8,21 +8,20 @@ use lib.Dec.{leb}
 use lib.ListN.{length, take, drop, length-drop}
 use lib.Seq.{take-all, length-take-le}
 use borrow.Author.Tests.{leb-true}
-use Rattle.answers.specs.Ask.{Trail}
 use Rattle.answers.specs.Theory.Sound.{clash}
 use Rattle.rules.specs.Bytes.{Text}
-use Rattle.rules.specs.Sizes.{maxNesting, maxRecords, maxText, maxRoom}
+use Rattle.rules.specs.Sizes.{maxNesting, maxRecords, maxText}
 use Rattle.rules.specs.Values.{recordSize, textSize, withinSize}
-use Rattle.rules.specs.Sheet.{records, texts, trailTextSize}
-use Rattle.theory.specs.Layout.{both-true, length-records, length-texts}
-use Rattle.theory_check.specs.Steps.{CheckAt, root-large, table-length, text-length, table-differs, check-accepts}
-use Rattle.sheet_kept.specs.Kept.{Held, named, kept, layout}
+use Rattle.rules.specs.Sheet.{records, texts}
+use Rattle.theory.specs.Layout.{both-true, length-texts}
+use Rattle.theory_check.specs.Steps.{root-large, table-length, text-length, table-differs, check-accepts}
+use Rattle.sheet_kept.specs.Kept.{Held, named, layout}
 use Rattle.sheet_kept.specs.Sizes.{kept-records}
 use Rattle.sheet_sizes.specs.Contracts.{WithinIs}
 use Rattle.sheet_sizes.specs.declared.Sizes.{Sizes}
-use Rattle.eval_writer.specs.Contracts.{Room, InRoom}
+use Rattle.eval_writer.specs.Contracts.{InRoom}
 use Rattle.eval_writer.specs.declared.Out.{Out}
-use Rattle.eval_finished.specs.Contracts.{Full, LayAsked}
+use Rattle.eval_finished.specs.Contracts.{LayAsked}
 use Rattle.eval_compared.specs.Contracts.{SameValueIs}
 use Rattle.check_tables.specs.Contracts.{Evaluated, TableAsked, TableIs}
 

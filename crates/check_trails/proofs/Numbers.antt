@@ -1,27 +1,23 @@
 -- Laws of checking the entry of a number.
 use mathlib.Core.Path.{_≡_, refl, sym, ap, subst, _∙_}
-use Prim.Native.Nat.{ℕ, _+_, _*_, _≤_, _<_}
+use Prim.Native.Nat.{ℕ, _+_, _≤_, _<_}
 use mathlib.Core.List.{List}
 use mathlib.Core.Option.{Option, none, some}
 use native.Mathlib.Omega.{arith}
 use lib.ListN.{length, getElem?}
-use Rattle.answers.specs.Ask.{Trail, lookup, run, value, missing, refused}
+use Rattle.answers.specs.Ask.{Trail, lookup, run}
 use Rattle.rules.specs.Bytes.{Text}
 use Rattle.rules.specs.Sizes.{maxUnresolved}
-use Rattle.rules.specs.Refusals.{Refusal}
-use Rattle.rules.specs.Tree.{Pieces, no-pieces, nodePiece, substituted, rootNode}
+use Rattle.rules.specs.Tree.{Pieces, no-pieces, nodePiece, substituted}
 use Rattle.rules.specs.Values.{Answer}
 use Rattle.rules.specs.Settled.{Given}
 use Rattle.rules.specs.Unresolved.{Unresolved}
-use Rattle.rules.specs.Documents.{Setting, ruleOf, countOf}
-use Rattle.rules.specs.Sheet.{trailSize}
+use Rattle.rules.specs.Documents.{Setting, ruleOf}
 use Rattle.theory_text.specs.Choices.{getElem-none}
 use Rattle.theory.specs.DistinctAnswers.{laid-distinct}
 use Rattle.theory.specs.Resolving.{laid-within}
-use Rattle.theory_check.specs.Steps.{nextNumber, check-needs, check-refused}
+use Rattle.theory_check.specs.Steps.{check-needs, check-refused}
 use Rattle.text_chars.specs.declared.DocAt.{DocAt}
-use Rattle.eval_writer.specs.declared.Out.{Out}
-use Rattle.eval_finished.specs.Contracts.{Full}
 use Rattle.eval_extents.specs.declared.Extent.{Extent}
 use Rattle.eval_weights.specs.Nodes.{PiecesBelow}
 use Rattle.eval_weights.specs.Weights.{mostWeight, root-below, pieces-below}

@@ -1,4 +1,5 @@
--- A job's memory, in one picture. It is lent three parts: a table of numbers, bytes, and the evaluator's stack of numbers.
+-- A job's memory, in one picture: a table of numbers, bytes, and the evaluator's stack of numbers. What the evaluator adds behind the table and
+-- behind the bytes is in eval_keys' Columns and in eval_state's Memories.
 --
 -- The table: two bytes a number.
 --
@@ -15,13 +16,14 @@
 --
 --      0                                  SHEET                      TRAIL                     BYTES
 --      +----------------------------------+--------------------------+-------------------------+
---      | the document's texts: one read   | the sheet's texts: what  | the trail's records:    |
---      | at place p begins at 2 p or      | its records point at     | the answers, one behind |
---      | before, behind the one before it |                          | the other               |
+--      | the document's texts: one read   | the sheet's texts: what  | the answers' records as |
+--      | at place p begins at 2 p or      | its records point at     | they are kept, at their |
+--      | before, behind the one before it |                          | offsets in the trail    |
 --      +----------------------------------+--------------------------+-------------------------+
 --      2 * 32,768 bytes                   32,768                     32,768
 --
--- The evaluator's stack, one number a layer: an item by its index, or a record of the trail by CAPACITY and its offset.
+-- The evaluator's stack, two numbers an entry: a layer, which is an item by its index or a kept record by CAPACITY and its offset, and a link.
+-- In front of it stands, for each key number, where its first member is (eval_groups).
 --
 --      0            lo                    hi       base               top                      its length
 --      +------------+---------------------+--------+------------------+------------------------+

@@ -1,27 +1,26 @@
 -- Laws of comparing.
-use mathlib.Core.Path.{_≡_, refl, sym, ap, _∙_}
+use mathlib.Core.Path.{_≡_, sym, ap, _∙_}
 use mathlib.Core.Logic.{_↔_}
 use Prim.Native.Nat.{ℕ, zero, suc, _+_, _-_, _/_, _%_, _≤_, _<_}
 use mathlib.Core.Bool.{Bool, true, false, cond}
 use mathlib.Core.List.{List, [], _∷_, _++_}
-use mathlib.Core.Option.{none, some}
 use native.Mathlib.Omega.{arith}
-use lib.ListN.{length, getD, take, drop, length-drop, length-append}
+use lib.ListN.{length, getD, take, drop, length-drop}
 use lib.Seq.{drop-cons, length-take-le, take-nil, take-at, drop-at}
 use lib.Dec.{eqb}
 use borrow.Author.Tests.{eq-eqb, ne-eqb}
 use Rattle.answers.specs.Theory.Sound.{clash}
 use Rattle.rules.specs.Bytes.{Text}
-use Rattle.rules.specs.Sizes.{maxRecords, maxText}
+use Rattle.rules.specs.Sizes.{maxRecords}
 use Rattle.rules.specs.Sheet.{two, texts, entryRecord}
 use Rattle.text_chars.specs.Parts.{part, part-is}
-use Rattle.sheet_kept.specs.Kept.{Held, named, layout}
+use Rattle.sheet_kept.specs.Kept.{Held, layout}
 use Rattle.sheet_layout.specs.Model.{eqAt}
 use Rattle.sheet_layout.specs.Contracts.{Holds, EqIs, SameRecordsIs}
 use Rattle.sheet_layout.specs.Compared.{eqAt-stands}
-use Rattle.eval_writer.specs.Contracts.{Room, InRoom, textsIn}
+use Rattle.eval_writer.specs.Contracts.{InRoom}
 use Rattle.eval_writer.specs.declared.Out.{Out}
-use Rattle.eval_finished.specs.Contracts.{Full, LayAsked}
+use Rattle.eval_finished.specs.Contracts.{LayAsked}
 use Rattle.eval_compared.specs.Contracts.{TextsAt, SameValueIs, StartIs, EntryAsked, SameEntryIs, SameUndefinedIs}
 
 -- ---- bytes

@@ -1,21 +1,19 @@
 -- Laws of copying: of one record, and of the cycle.
 use mathlib.Core.Path.{_≡_, refl, sym, ap, _∙_}
-use Prim.Native.Nat.{ℕ, zero, suc, _+_, _-_, _*_, _≤_, _<_, max}
+use Prim.Native.Nat.{ℕ, zero, suc, _+_, _-_, _≤_, _<_, max}
 use mathlib.Core.Bool.{Bool, true, false}
-use mathlib.Core.List.{List, [], _∷_, _++_, append-assoc, append-nil}
+use mathlib.Core.List.{List, [], _∷_, _++_, append-assoc}
 use native.Mathlib.Omega.{arith}
-use lib.ListN.{length, getD, List·getD-eq-default}
+use lib.ListN.{length, getD}
 use lib.Dec.{eqb}
 use Rattle.rules.specs.Sheet.{two}
 use Rattle.sheet_kept.specs.InTurn.{Word, extent}
-use Rattle.sheet_forms.specs.Model.{shapeOf}
-use Rattle.sheet_forms.specs.Contracts.{Wide, ShapeIs}
+use Rattle.sheet_forms.specs.Contracts.{ShapeIs}
 use Rattle.sheet_forms.specs.declared.Shape.{Shape}
-use Rattle.eval_writer.specs.Model.{wordAt}
-use Rattle.eval_writer.specs.Contracts.{Puts, Wrote, KeyWrote}
+use Rattle.eval_writer.specs.Contracts.{Wrote}
 use Rattle.eval_writer.specs.Composition.{wrote-none, wrote-then, head-wrote}
 use Rattle.eval_writer.specs.declared.Out.{Out}
-use Rattle.eval_records.specs.Model.{Act, act, then, under, pairC, keyC, copyK, plainC, wordC}
+use Rattle.eval_records.specs.Model.{Act, act, then, under, keyC, copyK, plainC, wordC}
 use Rattle.eval_records.specs.Contracts.{Span, CopiedIs, HeadIs}
 use Rattle.eval_records.specs.declared.Copied.{Copied}
 use Rattle.eval_copies.specs.Model.{copyM, copyMs, copyBy, copyH, copyV}

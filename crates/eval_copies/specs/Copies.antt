@@ -21,10 +21,10 @@ use Rattle.sheet_kept.specs.Standing.{Stands, stands-left, stands-right, stands
 use Rattle.sheet_forms.specs.Model.{shapeOf}
 use Rattle.sheet_forms.specs.Sheet.{at-0, at-n}
 use Rattle.sheet_forms.specs.declared.Shape.{Shape}
-use Rattle.eval_writer.specs.Model.{wordAt, keyAt, keyLen}
+use Rattle.eval_writer.specs.Model.{wordAt}
 use Rattle.eval_writer.specs.Keys.{KeyIn, KeysIn, AllKeysIn, FieldKeysIn}
 use Rattle.eval_records.specs.Model.{Act, act, then, under, pairC, keyC, copyK, plainC, wordC}
-use Rattle.eval_copies.specs.Model.{copyM, copyMs, copyBy, copyH, copyV}
+use Rattle.eval_copies.specs.Model.{copyM, copyMs, copyV}
 use Rattle.eval_copies.specs.Steps.{held-step, members-step}
 
 module _ (key : ℕ → Text) (T s : List ℕ) (tb : ℕ) where

@@ -1,8 +1,7 @@
 -- Copies by computing.
 use mathlib.Core.Path.{_≡_, refl}
 use Prim.Native.Nat.{ℕ}
-use mathlib.Core.List.{List, [], _∷_, _++_}
-use Rattle.eval_records.specs.Model.{Act}
+use mathlib.Core.List.{List, [], _∷_}
 use Rattle.eval_copies.specs.Model.{copyV}
 
 -- a job's bytes: the document's texts "ab1", then README's answer, the number 1 at text 0, and its text at 8

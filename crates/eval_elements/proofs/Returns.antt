@@ -1,32 +1,29 @@
 -- A law for each place where a function returns.
 use mathlib.Core.Path.{_≡_, refl, sym, ap, _∙_, subst}
-use Prim.Native.Nat.{ℕ, _+_, _*_, _-_, _/_, _%_, _≤_, _<_}
-use mathlib.Core.Bool.{Bool, true, false}
-use mathlib.Core.List.{List, [], _∷_, _++_}
-use mathlib.Core.Option.{Option}
+use Prim.Native.Nat.{ℕ, _+_, _-_, _/_, _%_, _≤_, _<_}
+use mathlib.Core.Bool.{false}
+use mathlib.Core.List.{List, _∷_, _++_}
 use native.Mathlib.Omega.{arith}
-use lib.ListN.{length, getD, drop}
+use lib.ListN.{drop}
 use Rattle.answers.specs.Ask.{value}
 use Rattle.answers.specs.Theory.Sound.{clash}
 use Rattle.rules.specs.Bytes.{Text}
-use Rattle.rules.specs.Sizes.{maxNesting, maxRoom, maxUnresolved}
-use Rattle.rules.specs.Tree.{array, Elements, heightOf, highestElement}
-use Rattle.rules.specs.Values.{Values, Value, Answer, scalar, arrayOf, deepestValue, nestingOf, recordSize, textSize}
+use Rattle.rules.specs.Sizes.{maxRoom, maxUnresolved}
+use Rattle.rules.specs.Tree.{heightOf}
+use Rattle.rules.specs.Values.{Values, arrayOf, deepestValue, nestingOf, recordSize, textSize}
 use Rattle.rules.specs.Sheet.{two, texts, valueTexts}
-use Rattle.rules.specs.Layers.{written, settled}
-use Rattle.rules.specs.Settled.{elementsIn, valueIn}
 use Rattle.theory.specs.Layout.{two-back}
 use Rattle.doc_items.specs.Room.{capacity, textRoom, sheetAt, trailAt}
 use Rattle.sheet_kept.specs.Kept.{Held, simple, listed, keyed, Helds, named, namedAll, countHelds, kept, keptAll}
 use Rattle.sheet_kept.specs.Sizes.{all-count}
 use Rattle.sheet_kept.specs.Standing.{Stands}
-use Rattle.sheet_forms.specs.Sheet.{at-0, at-n}
+use Rattle.sheet_forms.specs.Sheet.{at-n}
 use Rattle.eval_writer.specs.Keys.{KeysIn}
 use Rattle.eval_writer.specs.Building.{WrittenAll}
 use Rattle.eval_writer.specs.declared.Out.{Out}
 use Rattle.eval_writer.specs.declared.Source.{Source}
 use Rattle.eval_records.specs.Model.{pairC}
-use Rattle.eval_records.specs.Contracts.{mostBytes, farthest, PairIs, Span}
+use Rattle.eval_records.specs.Contracts.{PairIs}
 use Rattle.eval_records.specs.declared.Copied.{Copied}
 use Rattle.eval_copies.specs.Contracts.{MembersIs}
 use Rattle.eval_copies.specs.Copies.{copy-all, stands-body}
@@ -34,19 +31,16 @@ use Rattle.eval_joins.specs.Helds.{all-records, all-texts}
 use Rattle.eval_extents.specs.Contracts.{NotPast, ClipIs, Bounded}
 use Rattle.eval_extents.specs.Members.{CameAll}
 use Rattle.eval_extents.specs.declared.Extent.{Extent}
-use Rattle.eval_stack.specs.Model.{entries, Work}
 use Rattle.eval_tables.specs.Keys.{KeyNumber, EachKey}
 use Rattle.eval_tables.specs.Finished.{settled-keys}
 use Rattle.eval_worked.specs.Comes.{ElementsCome}
-use Rattle.eval_worked.specs.Contracts.{MadeWithin}
 use Rattle.eval_worked.specs.declared.Made.{Made}
 use Rattle.eval_state.specs.Memories.{answersOf}
-use Rattle.eval_value_laws.specs.Contracts.{Asked, Left, LayerGiven, ElementsGiven, ElementsIs}
+use Rattle.eval_value_laws.specs.Contracts.{Asked, ElementsIs}
 use Rattle.eval_elements.specs.Contracts.{FinishedAsked, FinishedIs, ArrayAsked, ArrayIs}
 use Rattle.eval_extents.specs.Came.{clipped-out}
-use Rattle.eval_extents.specs.Members.{begun}
 use Rattle.eval_tables.specs.Tables.{item-low}
-use Rattle.eval_tables.specs.Finished.{Memory, SettledAt}
+use Rattle.eval_tables.specs.Finished.{SettledAt}
 
 -- ---- a finished array
 

@@ -1,5 +1,4 @@
 -- What writing an array's elements promises.
-use mathlib.Core.Path.{_≡_}
 use Prim.Native.Nat.{ℕ, _+_, _≤_}
 use mathlib.Core.List.{List}
 use mathlib.Core.Option.{Option}
@@ -13,7 +12,7 @@ use Rattle.rules.specs.Sheet.{texts}
 use Rattle.rules.specs.Layers.{written, settled}
 use Rattle.rules.specs.Settled.{elementsIn, valueIn}
 use Rattle.doc_items.specs.Room.{sheetAt, trailAt}
-use Rattle.sheet_kept.specs.Kept.{Held, listed, Helds, named, namedAll, kept}
+use Rattle.sheet_kept.specs.Kept.{listed, Helds, named, namedAll, kept}
 use Rattle.sheet_kept.specs.Standing.{Stands}
 use Rattle.eval_writer.specs.Contracts.{Room}
 use Rattle.eval_writer.specs.Keys.{KeysIn}

@@ -1,21 +1,21 @@
 -- Laws of laying entries.
-use mathlib.Core.Path.{_≡_, refl, sym, ap, _∙_}
-use Prim.Native.Nat.{ℕ, suc, _+_, _-_, _/_, _%_, _≤_, _<_}
+use mathlib.Core.Path.{_≡_, sym, ap, _∙_}
+use Prim.Native.Nat.{ℕ, _+_, _-_, _/_, _%_, _≤_, _<_}
 use mathlib.Core.List.{List, [], _∷_, _++_, append-assoc, append-nil}
 use mathlib.Core.Option.{none, some}
 use native.Mathlib.Omega.{arith}
 use lib.ListN.{length, set, take, drop, length-append, length-drop}
-use lib.Seq.{sets, sets-eq, drop-drop, take-append-seam, drop-append-seam, length-take-le, lt-length-set, take-at, drop-at}
+use lib.Seq.{sets, sets-eq, drop-drop, length-take-le, lt-length-set, take-at, drop-at}
 use Rattle.answers.specs.Ask.{Trail}
 use Rattle.rules.specs.Bytes.{Text}
-use Rattle.rules.specs.Sizes.{maxRecords, maxText}
-use Rattle.rules.specs.Values.{Answer, textSize}
+use Rattle.rules.specs.Sizes.{maxRecords}
+use Rattle.rules.specs.Values.{Answer}
 use Rattle.rules.specs.Sheet.{two, records, texts, entryRecord, answerTexts, trailSize, trailTextSize, trailRecords, trailTexts}
-use Rattle.theory.specs.Layout.{length-trailRecords, length-trailTexts, length-texts}
+use Rattle.theory.specs.Layout.{length-trailRecords, length-trailTexts}
 use Rattle.text_chars.specs.Parts.{part, back, part-is, back-is}
-use Rattle.sheet_kept.specs.Kept.{Held, named, kept, layout}
+use Rattle.sheet_kept.specs.Kept.{Held, named, layout}
 use Rattle.sheet_kept.specs.Sets.{sets-behind}
-use Rattle.eval_writer.specs.Contracts.{Room, InRoom, textsIn}
+use Rattle.eval_writer.specs.Contracts.{InRoom}
 use Rattle.eval_writer.specs.declared.Out.{Out}
 use Rattle.eval_finished.specs.Contracts.{Full, LaidIs}
 use Rattle.eval_entries.specs.Contracts.{StartIs, EntryIs, UndefinedIs, TrailIs, AddAsked, AddIs, AddUndefinedIs}

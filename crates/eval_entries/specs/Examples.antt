@@ -1,8 +1,7 @@
 -- README's trail, of `a=1,b=${a}`: one entry, the number 1 at text 0.
-use mathlib.Core.Path.{_≡_, refl}
-use mathlib.Core.List.{List, [], _∷_}
+use mathlib.Core.Path.{refl}
+use mathlib.Core.List.{[], _∷_}
 use mathlib.Core.Option.{none, some}
-use Prim.Native.Nat.{ℕ}
 use Rattle.rules.specs.Tree.{number}
 use Rattle.rules.specs.Values.{scalar}
 use Rattle.rules.specs.Sheet.{trailRecords, trailTexts}

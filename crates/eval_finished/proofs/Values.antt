@@ -1,28 +1,26 @@
 -- Laws of laying and keeping a value.
 use mathlib.Core.Path.{_≡_, sym, ap, _∙_}
-use mathlib.Core.Logic.{_⊎_}
-use Prim.Native.Nat.{ℕ, _+_, _-_, _≤_, _<_}
+use Prim.Native.Nat.{ℕ, _+_, _-_}
 use mathlib.Core.List.{List, _++_}
 use native.Mathlib.Omega.{arith}
 use native.Mathlib.Nat.{le-refl}
 use lib.ListN.{length, take, drop, length-drop, take-append-drop}
 use lib.Seq.{sets, length-take-le}
 use Rattle.rules.specs.Bytes.{Text}
-use Rattle.rules.specs.Sizes.{maxRecords, maxText}
+use Rattle.rules.specs.Sizes.{maxRecords}
 use Rattle.rules.specs.Sheet.{texts}
 use Rattle.text_chars.specs.Parts.{part, back, part-is, back-is}
 use Rattle.sheet_kept.specs.Kept.{Held, named, kept}
 use Rattle.sheet_kept.specs.Sizes.{kept-length}
 use Rattle.sheet_kept.specs.Sets.{take-sets, drop-sets}
-use Rattle.sheet_kept.specs.Standing.{Stands, both-stand}
+use Rattle.sheet_kept.specs.Standing.{both-stand}
 use Rattle.sheet_forms.specs.declared.Form.{Form}
-use Rattle.sheet_forms.specs.Contracts.{twoBytes}
 use Rattle.sheet_layout.specs.Model.{lays}
 use Rattle.sheet_layout.specs.Contracts.{Holds, LayIs}
 use Rattle.sheet_layout.specs.Sheet.{lays-value}
-use Rattle.eval_writer.specs.Contracts.{Room, FilledIs, InRoom}
+use Rattle.eval_writer.specs.Contracts.{FilledIs, InRoom}
 use Rattle.eval_writer.specs.declared.Out.{Out}
-use Rattle.eval_finished.specs.Contracts.{Full, LayAsked, LaidIs, KeepAsked, KeepIs}
+use Rattle.eval_finished.specs.Contracts.{Full, LaidIs, KeepAsked, KeepIs}
 
 module _ {room : List ℕ} {o : Out} where
   in-holds : {key : ℕ → Text} {v : Held} → InRoom key v room o → Holds key v room (o .rec .0)

@@ -1,24 +1,22 @@
 -- The value of a piece that is within its size has distinct keys: it is what the rules give an unresolved value of that piece alone. So have
 -- the objects of a join.
-use mathlib.Core.Path.{_≡_, refl, sym, ap, subst, _∙_}
+use mathlib.Core.Path.{_≡_, refl, sym, ap, _∙_}
 use mathlib.Core.Bool.{Bool, true, false}
 use Prim.Native.Nat.{ℕ, _+_, _≤_}
-use mathlib.Core.List.{List, [], _++_}
+use mathlib.Core.List.{[], _++_}
 use mathlib.Core.Option.{Option, none, some}
 use native.Mathlib.Omega.{arith}
-use lib.ListN.{getElem?}
-use Rattle.answers.specs.Ask.{value, refused, missing, run, then}
+use Rattle.answers.specs.Ask.{value, refused, then}
 use Rattle.answers.specs.Theory.Sound.{clash}
 use Rattle.rules.specs.Bytes.{Text}
 use Rattle.rules.specs.Refusals.{nowhere}
 use Rattle.rules.specs.Environment.{Environment}
 use Rattle.rules.specs.Pieces.{scalarText}
 use Rattle.rules.specs.Tree.{string, Substitution, Node, Pieces, no-pieces, nodePiece, substituted, Root, rootNode, heightOf, highestPiece}
-use Rattle.rules.specs.Values.{Value, Answer, scalar, arrayOf, objectOf, Members, withinSize, joinValues, mergeMembers}
+use Rattle.rules.specs.Values.{Value, Answer, scalar, arrayOf, objectOf, withinSize, joinValues, mergeMembers}
 use Rattle.rules.specs.NamedValues.{Distinct, DistinctMembers}
 use Rattle.rules.specs.Settled.{Given, nodeIn, valueIn}
-use Rattle.rules.specs.Unresolved.{Open, Unresolved, Join, blank, text, joinedArray, joinedObject, joinNothing, joinAnswer, depthOf, answerOf}
-use Rattle.rules.specs.Documents.{Setting}
+use Rattle.rules.specs.Unresolved.{Open, Join, blank, text, joinedArray, joinedObject, joinNothing, joinAnswer, depthOf}
 use Rattle.theory.specs.DistinctKeys.{merge-distinct}
 use Rattle.theory.specs.DistinctAnswers.{DistinctHome, answer-distinct}
 use Rattle.theory.specs.Depths.{Shallow}

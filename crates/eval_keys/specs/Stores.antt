@@ -8,7 +8,6 @@ use lib.Dec.{ltb}
 use lib.ListN.{length, getD, set, length-set}
 use lib.Seq.{getD-set-same, getD-set-other}
 use Rattle.doc_items.specs.Room.{capacity}
-use Rattle.doc_items.specs.Parts.{numbers}
 use Rattle.eval_keys.specs.Texts.{both, bucketCount, bucketOf, bucket-small}
 use Rattle.eval_keys.specs.Columns.{keysAt, bucketsAt, linksAt, Room, keyAt, newestAt, linkAt, isField, keyText}
 use Rattle.eval_keys.specs.Numbers.{NoneBefore, NumberOf, Numbered, Kept}

@@ -16,7 +16,6 @@ use doc_items::number_at;
 use text_chars::TextAt;
 use text_chars::TextLen;
 use text_chars::text_byte;
-ghost use mathlib.Core.Path.{_≡_};
 ghost use Prim.Native.Nat.{_+_, _≤_, _<_};
 ghost use lib.ListN.{length};
 ghost use Rattle.doc_items.specs.Room.{capacity};

@@ -1,5 +1,4 @@
 -- Why a finished value's copy is what it is said to be.
-use mathlib.Core.Path.{_≡_}
 use Prim.Native.Nat.{ℕ, _≤_}
 use mathlib.Core.List.{List}
 use native.Mathlib.Omega.{arith}

@@ -1,21 +1,18 @@
 -- A law for each place where the function returns.
-use mathlib.Core.Path.{_≡_, refl, sym, ap, _∙_}
+use mathlib.Core.Path.{_≡_, _∙_}
 use Prim.Native.Nat.{ℕ, _+_, _≤_}
 use mathlib.Core.List.{List}
 use mathlib.Core.Option.{some}
 use native.Mathlib.Omega.{arith}
-use lib.ListN.{length}
-use Rattle.answers.specs.Ask.{value, missing}
+use Rattle.answers.specs.Ask.{value}
 use Rattle.answers.specs.Theory.Sound.{clash}
 use Rattle.rules.specs.Bytes.{Text}
 use Rattle.rules.specs.Sizes.{maxRoom}
 use Rattle.rules.specs.Values.{Value, Answer, Members, objectOf, mergeMembers}
 use Rattle.rules.specs.Settled.{Given}
 use Rattle.doc_items.specs.Room.{capacity, textRoom}
-use Rattle.eval_writer.specs.Contracts.{Room}
 use Rattle.eval_writer.specs.Composition.{start}
 use Rattle.eval_writer.specs.declared.Source.{Source}
-use Rattle.eval_extents.specs.Contracts.{NotPast, Bounded}
 use Rattle.eval_extents.specs.declared.Extent.{Extent}
 use Rattle.eval_stack.specs.Model.{entries, Work}
 use Rattle.eval_stack.specs.Contracts.{PushIs}
@@ -26,7 +23,7 @@ use Rattle.eval_worked.specs.Comes.{ComesBy}
 use Rattle.eval_worked.specs.declared.Worked.{Worked}
 use Rattle.eval_state.specs.Memories.{pairRecordsAt, pairTextsAt, secondAt}
 use Rattle.eval_value_laws.specs.Ground.{Names}
-use Rattle.eval_value_laws.specs.Contracts.{Asked, Left, ObjectIs, mergedBy}
+use Rattle.eval_value_laws.specs.Contracts.{Asked, Left, ObjectIs}
 use Rattle.eval_merge.specs.Contracts.{PushedIs, MergeAsked, PairGiven, Merged, MergeIs}
 use Rattle.eval_merge.specs.Layers.{unknown, layers, pair-merged, pair-given}
 

@@ -1,27 +1,21 @@
 -- The pair as two layers on the stack: what the rules make of them is the merged object.
 use mathlib.Core.Path.{_≡_, refl, sym, ap, _∙_}
-use Prim.Native.Nat.{ℕ, suc, _+_, _-_, _*_, _≤_, _<_}
+use Prim.Native.Nat.{ℕ, suc, _+_, _-_, _≤_}
 use mathlib.Core.List.{List, [], _∷_}
 use mathlib.Core.Option.{Option, none, some}
 use native.Mathlib.Omega.{arith}
-use lib.ListN.{length, getD}
 use lib.Seq.{getD-set-same, getD-set-other}
 use Rattle.answers.specs.Ask.{value}
 use Rattle.answers.specs.Theory.Sound.{clash}
 use Rattle.rules.specs.Bytes.{Text}
-use Rattle.rules.specs.Sizes.{maxRecords}
-use Rattle.rules.specs.Values.{Value, Members, Answer, objectOf, mergeMembers, nestingOf, recordSize}
+use Rattle.rules.specs.Values.{Value, Members, Answer, objectOf, mergeMembers, nestingOf}
 use Rattle.rules.specs.Layers.{Layer, settled, ofObjects}
-use Rattle.rules.specs.Settled.{no, gatherIn, countedIn, mergedIn, valueIn}
-use Rattle.rules.specs.Weights.{weightOfValue, weigh}
+use Rattle.rules.specs.Settled.{gatherIn, countedIn, mergedIn, valueIn}
 use Rattle.theory.specs.MergedValues.{merged-by-layers}
 use Rattle.doc_items.specs.Room.{capacity}
-use Rattle.eval_stack.specs.Model.{entries, Work, codePlace, codeAt, seg}
+use Rattle.eval_stack.specs.Model.{entries, Work, codePlace, codeAt}
 use Rattle.eval_stack.specs.Contracts.{PushIs}
 use Rattle.eval_stack.specs.Pushes.{pushed-room, top-room}
-use Rattle.eval_tables.specs.Finished.{Memory}
-use Rattle.eval_tables.specs.Tables.{Tables, Match}
-use Rattle.eval_groups.specs.Entries.{Objects}
 use Rattle.eval_groups.specs.Room.{objects-weigh}
 use Rattle.eval_taken.specs.Levels.{ObjectsAt}
 use Rattle.eval_state.specs.Memories.{secondAt, pairOf}

@@ -1,6 +1,5 @@
 -- What a finished value weighs, by the bytes of its records: a member has six of them at least.
-use mathlib.Core.Path.{_≡_}
-use Prim.Native.Nat.{ℕ, _+_, _*_, _≤_}
+use Prim.Native.Nat.{_+_, _*_, _≤_}
 use native.Mathlib.Omega.{arith}
 use Rattle.rules.specs.Tree.{null, boolean, number, string}
 use Rattle.rules.specs.Values.{Value, scalar, arrayOf, objectOf, Members, no-members, member, recordSize, memberRecordSizes}

@@ -11,7 +11,7 @@ use Rattle.answers.specs.Resolve.{answer}
 use Rattle.rules.specs.Sizes.{maxRoom}
 use Rattle.rules.specs.Tree.{Node, simple, array, object, unresolved, Fields, Elements, no-elements, AllElements}
 use Rattle.rules.specs.Values.{Answer}
-use Rattle.rules.specs.Layers.{Layer, written, settled, merged, keysInOrder}
+use Rattle.rules.specs.Layers.{Layer, written, settled, keysInOrder}
 use Rattle.rules.specs.Weights.{weightOf, weightOfElements}
 use Rattle.theory.specs.Reach.{Each, InRange}
 use Rattle.theory_order.specs.Fitting.{Plain}

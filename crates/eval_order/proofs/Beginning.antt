@@ -3,33 +3,30 @@ use mathlib.Core.Path.{_≡_, refl, sym, ap, _∙_}
 use mathlib.Core.Bool.{Bool, true, false, cond}
 use mathlib.Core.List.{List, _∷_}
 use mathlib.Core.Option.{Option, none, some}
-use Prim.Native.Nat.{ℕ, suc, _+_, _*_, _≤_, _<_}
+use Prim.Native.Nat.{ℕ, _+_, _*_, _≤_, _<_}
 use native.Mathlib.Omega.{arith}
 use lib.Dec.{eqb}
 use lib.ListN.{length, getD, getElem?, set}
 use lib.Seq.{getD-set-same, getD-set-other}
 use borrow.Author.Tests.{eqb-true, eqb-false}
-use Rattle.answers.specs.Ask.{Trail, lookup}
+use Rattle.answers.specs.Ask.{Trail}
 use Rattle.answers.specs.Theory.Fuel.{begun}
 use Rattle.rules.specs.Bytes.{Text}
-use Rattle.rules.specs.Sizes.{maxUnresolved}
 use Rattle.rules.specs.Refusals.{placed}
 use Rattle.rules.specs.Values.{Answer}
 use Rattle.rules.specs.Unresolved.{Unresolved}
 use Rattle.rules.specs.Documents.{Setting, countOf, firstByte}
 use Rattle.theory_text.specs.Choices.{getElem-none}
 use Rattle.theory_order.specs.Running.{begun-push}
-use Rattle.theory_order.specs.Contracts.{Task, questionsOf, barOf}
 use Rattle.theory_order.specs.WorkLaws.{bar-circular, bar-excess, bar-free}
 use Rattle.doc_items.specs.Room.{indexAt, answersAt}
 use Rattle.doc_items.specs.Writing.{ReadIs}
 use Rattle.read_numbering.specs.Contracts.{itemOf}
 use Rattle.eval_state.specs.Memories.{begunAt}
 use Rattle.eval_state.specs.Documents.{DocumentIn}
-use Rattle.eval_state.specs.State.{State}
-use Rattle.eval_state.specs.Later.{Later, later-marked, state-later}
+use Rattle.eval_state.specs.Later.{later-marked, state-later}
 use Rattle.text_chars.specs.declared.DocAt.{DocAt}
-use Rattle.eval_order.specs.Contracts.{markOf, Holding, PlaceIs, BeginAsked, BeginIs}
+use Rattle.eval_order.specs.Contracts.{markOf, PlaceIs, BeginAsked, BeginIs}
 use Rattle.eval_order.specs.declared.Progress.{Progress}
 use Rattle.eval_order.specs.declared.Step.{Step}
 

@@ -3,17 +3,15 @@ use mathlib.Core.Path.{_≡_, refl, sym, ap, _∙_}
 use mathlib.Core.Bool.{Bool, true, false}
 use mathlib.Core.List.{List, _∷_, _++_}
 use mathlib.Core.Option.{none, some}
-use Prim.Native.Nat.{ℕ, _+_, _-_, _≤_, _<_}
+use Prim.Native.Nat.{ℕ, _+_, _-_, _≤_}
 use native.Mathlib.Omega.{arith}
 use lib.Dec.{leb}
-use lib.ListN.{length, getD, set, drop, length-append, length-drop}
+use lib.ListN.{length, getD, drop, length-append, length-drop}
 use lib.Seq.{getD-set-other}
 use borrow.Author.Tests.{leb-true}
 use Rattle.answers.specs.Ask.{Trail}
-use Rattle.answers.specs.Theory.Fuel.{begun}
 use Rattle.rules.specs.Bytes.{Text}
-use Rattle.rules.specs.Sizes.{maxUnresolved, maxRoom}
-use Rattle.rules.specs.Values.{Answer, recordSize, textSize}
+use Rattle.rules.specs.Values.{Answer}
 use Rattle.rules.specs.Sheet.{entrySize, answerTextSize, trailSize, trailTextSize, trailRecords, trailTexts, trailFits}
 use Rattle.theory.specs.Layout.{both-true, length-trailRecords, length-trailTexts}
 use Rattle.theory_order.specs.Running.{begun-lay}
@@ -23,10 +21,9 @@ use Rattle.sheet_sizes.specs.Contracts.{Small, EntryFitsIs}
 use Rattle.sheet_sizes.specs.declared.Sizes.{Sizes}
 use Rattle.doc_items.specs.Room.{answersAt}
 use Rattle.eval_writer.specs.declared.Out.{Out}
-use Rattle.eval_entries.specs.Contracts.{TrailIs, AddAsked, AddIs, AddUndefinedIs}
-use Rattle.eval_state.specs.Memories.{begunAt, jobTable}
+use Rattle.eval_entries.specs.Contracts.{AddAsked, AddIs, AddUndefinedIs}
+use Rattle.eval_state.specs.Memories.{begunAt}
 use Rattle.eval_state.specs.Counters.{records-are, texts-are}
-use Rattle.eval_state.specs.State.{State}
 use Rattle.eval_state.specs.Contracts.{Finished, AnswerAsked, AnswerIs, UndefinedAsked, UndefinedIs}
 use Rattle.eval_order.specs.Contracts.{markOf, Holding, sizes, RoomAsked, RoomIs, MoreIs, LayAsked, LayIs, NoneAsked, NoneIs}
 use Rattle.eval_order.specs.declared.Progress.{Progress}

@@ -2,8 +2,6 @@
 // Computes: Layers (layersAt, by the model in specs/Model)
 use doc_items::number_at;
 use eval_layers::Part;
-ghost use Prim.Native.Nat.{_≤_};
-ghost use lib.ListN.{length};
 ghost use Rattle.eval_members.specs.Contracts.{Few};
 ghost use Rattle.eval_stack.specs.Contracts.{Stack};
 ghost use Rattle.eval_paths.specs.Model.{onwardC, parted, PartIs, WalkPathIs};

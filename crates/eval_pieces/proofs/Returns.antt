@@ -3,11 +3,10 @@ use mathlib.Core.Path.{_≡_, refl, sym, ap, _∙_}
 use Prim.Native.Nat.{ℕ, _+_, _*_, _≤_, _<_}
 use mathlib.Core.Bool.{Bool, true, false}
 use mathlib.Core.List.{List}
-use mathlib.Core.Option.{none, some}
 use native.Mathlib.Omega.{arith}
 use lib.ListN.{length, take, drop, getD, length-take}
 use Rattle.rules.specs.Sizes.{maxRoom}
-use Rattle.theory.specs.SettledAnswers.{orEnvironmentIn, substitutionIn}
+use Rattle.theory.specs.SettledAnswers.{substitutionIn}
 use Rattle.text_chars.specs.declared.DocAt.{DocAt}
 use Rattle.text_chars.specs.declared.EnvAt.{EnvAt}
 use Rattle.text_chars.specs.declared.EnvLen.{EnvLen}
@@ -24,7 +23,7 @@ use Rattle.eval_references.specs.Contracts.{PathLayersIs}
 use Rattle.eval_names.specs.Contracts.{askedOf, AskedIs, substitution-at}
 use Rattle.eval_names.specs.declared.Asked.{Asked}
 use Rattle.eval_state.specs.Memories.{answersOf}
-use Rattle.eval_pieces.specs.Contracts.{Lent, PieceCase, Inside, EnvironmentIs, ReferenceGiven, ReferenceIs, LiteralGiven, LiteralIs, PieceIs}
+use Rattle.eval_pieces.specs.Contracts.{Lent, EnvironmentIs, ReferenceIs, LiteralIs, PieceIs}
 use Rattle.eval_pieces.specs.Tops.{gathered-low, gathered-high}
 use Rattle.eval_pieces.specs.References.{reference-nothing, reference-needs, reference-one, reference-merged}
 use Rattle.eval_pieces.specs.Literals.{literal-kind, literal-one, literal-merged}

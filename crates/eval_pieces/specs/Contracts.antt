@@ -10,7 +10,7 @@ use Rattle.rules.specs.Bytes.{Text}
 use Rattle.rules.specs.Sizes.{maxEnvironment, maxRoom}
 use Rattle.rules.specs.Refusals.{placed}
 use Rattle.rules.specs.Environment.{Variable, entriesOf, textOf}
-use Rattle.rules.specs.Tree.{string, Substitution, Node, simple, array, object, unresolved, rootNode, heightOf}
+use Rattle.rules.specs.Tree.{string, Substitution, Node, unresolved, rootNode, heightOf}
 use Rattle.rules.specs.Values.{Answer, scalar}
 use Rattle.rules.specs.Layers.{Layer}
 use Rattle.rules.specs.Settled.{Given, nodeIn, layerIn, valueIn}
@@ -24,7 +24,7 @@ use Rattle.theory.specs.SettledAnswers.{openIn, orEnvironmentIn, substitutionIn
 use Rattle.doc_items.specs.Codes.{asPiece, kindAt, textAt, textlenAt, placeAt, numberAt}
 use Rattle.doc_items.specs.Holds.{ReferenceAt}
 use Rattle.doc_items.specs.Parts.{numbers, letters}
-use Rattle.doc_items.specs.Room.{capacity, textRoom, trailAt}
+use Rattle.doc_items.specs.Room.{capacity, trailAt}
 use Rattle.read_numbering.specs.Contracts.{PathFits}
 use Rattle.eval_stack.specs.Model.{entries, Work}
 use Rattle.eval_stack.specs.Contracts.{Same}

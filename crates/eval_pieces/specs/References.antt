@@ -1,18 +1,17 @@
 -- A substitution: what its layers come to on the stack is what the rules give for it.
 use mathlib.Core.Path.{_≡_, refl, sym, ap, _∙_, subst}
-use Prim.Native.Nat.{ℕ, _+_, _-_, _*_, _≤_, _<_}
+use Prim.Native.Nat.{ℕ, _+_, _-_, _≤_}
 use mathlib.Core.List.{List, []}
 use mathlib.Core.Option.{Option, none, some}
 use native.Mathlib.Omega.{arith}
-use lib.ListN.{length, getD}
+use lib.ListN.{length}
 use Rattle.answers.specs.Ask.{value, missing, refused, then}
-use Rattle.rules.specs.Bytes.{Text}
 use Rattle.rules.specs.Environment.{Environment}
-use Rattle.rules.specs.Tree.{Substitution, simple, array, object, unresolved, Root, rootNode, heightOf}
+use Rattle.rules.specs.Tree.{Substitution, simple, array, object, unresolved, Root, rootNode}
 use Rattle.rules.specs.Values.{Value, Values, Answer, arrayOf}
 use Rattle.rules.specs.Layers.{Layer, written, settled, Counted, nothing, one, merged}
-use Rattle.rules.specs.Settled.{Settled, Given, gatherIn, gatherOf, nodeIn, elementsIn, layerIn, mergedIn, countedIn, valueIn}
-use Rattle.rules.specs.Weights.{weightOf, weightOfElements, weigh, objectsOn}
+use Rattle.rules.specs.Settled.{Settled, Given, gatherIn, nodeIn, elementsIn, layerIn, mergedIn, countedIn, valueIn}
+use Rattle.rules.specs.Weights.{weightOf, weightOfElements, weigh}
 use Rattle.rules.specs.Unresolved.{Unresolved}
 use Rattle.rules.specs.Documents.{Setting}
 use Rattle.theory.specs.Depths.{heightIn, shallow-within}
@@ -28,7 +27,6 @@ use Rattle.eval_layers.specs.Contracts.{GatherIs}
 use Rattle.eval_layers.specs.Gather.{TakenShows, nothing-shows, one-shows, needs-shows, merged-shows, gather-shows}
 use Rattle.eval_layers.specs.declared.Part.{Part}
 use Rattle.eval_layers.specs.declared.Taken.{Taken}
-use Rattle.eval_groups.specs.Entries.{Objects}
 use Rattle.eval_groups.specs.Room as groups
 use Rattle.eval_taken.specs.Uses.{Merging, merges}
 use Rattle.eval_routes.specs.Elements.{item-read}
@@ -39,7 +37,7 @@ use Rattle.eval_references.specs.Documents.{PathNumbers}
 use Rattle.eval_references.specs.LayersFor.{layers-show}
 use Rattle.eval_value_laws.specs.Counting.{NoObject, one-low, merged-low, merged-high}
 use Rattle.eval_value_laws.specs.OneRoom.{one-elements}
-use Rattle.eval_value_laws.specs.Contracts.{Ground, LayerFits, LayerGiven, ObjectsGiven, mergedBy}
+use Rattle.eval_value_laws.specs.Contracts.{Ground, LayerFits}
 use Rattle.eval_value_laws.specs.Given.{value-by}
 use Rattle.eval_pieces.specs.Contracts.{levels, ReferenceGiven, OneOf, MergedOf}
 use Rattle.eval_pieces.specs.Rooms.{tops-shorter, Light, path-light}

@@ -23,7 +23,7 @@ use Rattle.theory_back.specs.Uses.{layers-of}
 use Rattle.eval_keys.specs.Numbers.{numberOf}
 use Rattle.eval_stack.specs.Model.{entries}
 use Rattle.eval_tables.specs.Keys.{Means, number-means}
-use Rattle.eval_tables.specs.Finished.{Memory, Stored}
+use Rattle.eval_tables.specs.Finished.{Memory}
 use Rattle.eval_tables.specs.Tables.{Tables, match-length}
 use Rattle.eval_layers.specs.Contracts.{walked}
 use Rattle.eval_layers.specs.declared.Part.{Part}

@@ -6,7 +6,7 @@ use Prim.Native.Nat.{ℕ, zero, suc, _+_, _-_, _*_, _≤_, _<_}
 use native.Mathlib.Omega.{arith}
 use lib.ListN.{length, drop, getElem?}
 use Rattle.answers.specs.Theory.Sound.{clash}
-use Rattle.rules.specs.Sizes.{maxDocument, maxUnresolved, maxRoom}
+use Rattle.rules.specs.Sizes.{maxDocument, maxUnresolved}
 use Rattle.rules.specs.Sheet.{trailSize, trailTextSize, trailTexts}
 use Rattle.rules.specs.Tree.{Node, unresolved, Root, fields, elements, rootNode, AllNode}
 use Rattle.rules.specs.Unresolved.{Unresolved}
@@ -15,21 +15,21 @@ use Rattle.theory_text.specs.Choices.{getElem-length}
 use Rattle.theory.specs.Numbering.{Prepared}
 use Rattle.theory.specs.Reach.{InRange}
 use Rattle.doc_items.specs.Codes.{asMember}
-use Rattle.doc_items.specs.Holds.{Sized, NodeAt}
+use Rattle.doc_items.specs.Holds.{NodeAt}
 use Rattle.doc_items.specs.Moving.{Grown}
 use Rattle.doc_items.specs.Parts.{numbers, letters}
 use Rattle.doc_items.specs.Room.{capacity, textRoom, answersAt, indexAt, sheetAt}
 use Rattle.read_numbering.specs.Contracts.{itemOf, ItemOf, Indexed}
 use Rattle.read_documents.specs.Contracts.{Stands}
 use Rattle.eval_keys.specs.Texts.{by-equal}
-use Rattle.eval_keys.specs.Columns.{keysAt, firstsAt, columnsEnd, keyText}
+use Rattle.eval_keys.specs.Columns.{keysAt, keyText}
 use Rattle.eval_keys.specs.Contracts.{ClearIs, NumberKeysIs}
 use Rattle.eval_keys.specs.Documents.{number-below, number-above}
 use Rattle.eval_root.specs.Contracts.{LinkRootIs}
 use Rattle.eval_root.specs.Documents.{Keyed, link-below, document-keyed}
 use Rattle.eval_state.specs.Agreeing.{SameItems, same-node}
 use Rattle.eval_state.specs.Members.{in-node}
-use Rattle.eval_state.specs.Memories.{begunAt, jobTable, jobBytes, NumberIn, answersOf}
+use Rattle.eval_state.specs.Memories.{begunAt, jobTable, NumberIn, answersOf}
 use Rattle.eval_state.specs.Documents.{UnresolvedAt, DocumentIn, root-range, pieces-range}
 use Rattle.eval_state.specs.State.{State}
 use Rattle.eval_prepare.specs.Contracts.{keyEnd, BoundIs, Bounded, PrepareAsked, PrepareIs}

@@ -1,13 +1,13 @@
 -- The layers that `before` has on the stack, level by level, show the rules' layers before the field.
 use mathlib.Core.Path.{_≡_, refl, sym, ap, subst, _∙_}
 use Prim.Native.Nat.{ℕ, _+_, _-_, _≤_, _<_}
-use mathlib.Core.Bool.{Bool, true, cond}
+use mathlib.Core.Bool.{Bool, cond}
 use mathlib.Core.List.{List, []}
 use mathlib.Core.Option.{Option, some}
 use native.Mathlib.Omega.{arith}
 use lib.ListN.{length, drop, getD}
 use Rattle.answers.specs.Theory.Sound.{clash}
-use Rattle.rules.specs.Bytes.{Text, same}
+use Rattle.rules.specs.Bytes.{Text}
 use Rattle.rules.specs.Tree.{Node, simple, array, object, unresolved, Fields, no-fields, field, joinFields, Root, fields, elements, rootNode}
 use Rattle.rules.specs.Values.{Answer}
 use Rattle.rules.specs.Settled.{Settled, no, deeperIn, deeperOf}

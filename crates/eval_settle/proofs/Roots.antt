@@ -1,20 +1,17 @@
 -- The root is a layer, with room for all that is in it, and nothing is known of any answer.
 use mathlib.Core.Path.{_≡_, refl, sym, subst, _∙_}
 use mathlib.Core.List.{List, []}
-use Prim.Native.Nat.{ℕ, _+_, _*_, _≤_}
+use Prim.Native.Nat.{ℕ, _≤_}
 use native.Mathlib.Omega.{arith}
 use lib.ListN.{length}
 use Rattle.answers.specs.Ask.{lookup}
-use Rattle.rules.specs.Refusals.{Refusal}
 use Rattle.rules.specs.Tree.{object, array, Root, fields, elements, rootNode}
-use Rattle.rules.specs.Values.{Answer}
 use Rattle.rules.specs.Layers.{written}
 use Rattle.rules.specs.Weights.{weightOf}
 use Rattle.rules.specs.Sheet.{trailSize, trailTextSize}
 use Rattle.theory.specs.Numbering.{numbers-below}
-use Rattle.theory_order.specs.Walks.{Ended}
 use Rattle.theory_order.specs.Fitting.{Plain}
-use Rattle.theory_order.specs.Contracts.{Task, treeOf, settleRootC}
+use Rattle.theory_order.specs.Contracts.{Task, treeOf}
 use Rattle.theory_order.specs.Resolving.{kept-start}
 use Rattle.eval_tables.specs.Finished.{Memory}
 use Rattle.eval_tables.specs.Tables.{WrittenAt, Shows}
@@ -24,7 +21,7 @@ use Rattle.eval_later.specs.Shows.{usedOf, written-used}
 use Rattle.eval_order.specs.declared.Progress.{Progress}
 use Rattle.eval_order.specs.declared.Step.{Step}
 use Rattle.eval_need_laws.specs.declared.Need.{Need}
-use Rattle.eval_need_laws.specs.Ground.{settlingRoom, Lasting, LayerFits}
+use Rattle.eval_need_laws.specs.Ground.{Lasting, LayerFits}
 use Rattle.eval_settle_laws.specs.Given.{Given, groundOf, soundOf}
 use Rattle.eval_need_laws.specs.Needs.{needC, begins, LayerAsked, LayerIs}
 use Rattle.eval_settle_laws.specs.Contracts.{Settles, OneAsked, OneIs, RootAsked, RootSettles, RootIs}

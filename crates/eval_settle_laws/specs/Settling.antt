@@ -5,7 +5,7 @@ use Prim.Native.Nat.{ℕ, suc, _+_, _-_, _≤_, _<_}
 use native.Mathlib.Omega.{arith}
 use lib.ListN.{length}
 use borrow.Author.Tests.{le-leb}
-use Rattle.answers.specs.Ask.{Trail, lookup}
+use Rattle.answers.specs.Ask.{Trail}
 use Rattle.answers.specs.Resolve.{answer, after}
 use Rattle.rules.specs.Bytes.{Text}
 use Rattle.rules.specs.Refusals.{Refusal}
@@ -32,7 +32,7 @@ use Rattle.eval_need_laws.specs.declared.Kind.{Kind}
 use Rattle.eval_need_laws.specs.declared.Span.{Span}
 use Rattle.eval_need_laws.specs.declared.Need.{Need}
 use Rattle.eval_need_laws.specs.declared.Met.{Met}
-use Rattle.eval_need_laws.specs.Ground.{settlingRoom, Ground, memoryOf}
+use Rattle.eval_need_laws.specs.Ground.{Ground, memoryOf}
 use Rattle.eval_need_laws.specs.Rooms.{lasting-later}
 use Rattle.eval_need_laws.specs.Places.{rest-low}
 use Rattle.eval_settle_laws.specs.Given.{Given, groundOf, soundOf, Come, come-here, come-on, given-lent, given-on}

@@ -6,8 +6,8 @@ use mathlib.Core.List.{List, [], _∷_}
 use mathlib.Core.Option.{some}
 use Prim.Native.Nat.{ℕ, _+_, _-_, _≤_, _<_}
 use native.Mathlib.Omega.{arith}
-use lib.ListN.{length, getD, set, take, drop, length-drop}
-use lib.Seq.{sets, length-sets, length-take-le}
+use lib.ListN.{length, getD, set}
+use lib.Seq.{sets, length-sets}
 use Rattle.answers.specs.Ask.{Trail}
 use Rattle.rules.specs.Bytes.{Text}
 use Rattle.rules.specs.Sizes.{maxRecords, maxText, maxRoom, maxUnresolved}
@@ -20,9 +20,7 @@ use Rattle.sheet_kept.specs.Kept.{Held, named, kept}
 use Rattle.sheet_kept.specs.Sizes.{kept-records}
 use Rattle.eval_writer.specs.Contracts.{InRoom}
 use Rattle.eval_writer.specs.declared.Out.{Out}
-use Rattle.eval_finished.specs.Contracts.{Full, KeepAsked, KeepIs}
-use Rattle.eval_keys.specs.Columns.{keysAt}
-use Rattle.eval_tables.specs.Keys.{KeyNumber}
+use Rattle.eval_finished.specs.Contracts.{KeepAsked, KeepIs}
 use Rattle.eval_state.specs.Memories.{pairRecordsAt, pairTextsAt, secondAt, answersOf, pairOf}
 use Rattle.eval_state.specs.Documents.{key-number}
 use Rattle.eval_state.specs.Values.{KeptAt, Apart, kept-still, kept-new, each-key, set-below, set-above}

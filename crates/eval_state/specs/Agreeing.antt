@@ -1,12 +1,12 @@
 -- A document stands in any table and bytes that have the same numbers and texts. Keys count only where they lie among the document's texts:
 -- of an element, whose key nothing asks, they may be any numbers.
-use mathlib.Core.Path.{_≡_, refl, sym, ap, subst, _∙_}
+use mathlib.Core.Path.{_≡_, ap, _∙_}
 use Prim.Native.Nat.{ℕ, _+_, _*_, _≤_, _<_}
 use native.Mathlib.Omega.{arith}
 use Rattle.rules.specs.Tree.{Substitution, Node, simple, array, object, unresolved, Elements, no-elements, element, Fields, no-fields, field, Pieces, no-pieces, nodePiece, substituted}
 use Rattle.rules.specs.Tree.{AllNode, AllElements, AllFields, AllPieces}
 use Rattle.theory.specs.Reach.{InRange}
-use Rattle.doc_items.specs.Holds.{TextAt, Seams, ReferenceAt, Shown, ElementsAt, FieldsAt, PiecesAt, NodeAt}
+use Rattle.doc_items.specs.Holds.{Seams, ReferenceAt, ElementsAt, FieldsAt, PiecesAt, NodeAt}
 use Rattle.doc_items.specs.Moving.{Grown, move-text}
 
 -- the items before top in two tables, g and g′: the same but for keys that do not end by hi

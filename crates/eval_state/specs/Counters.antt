@@ -3,14 +3,14 @@ use mathlib.Core.Path.{_≡_, sym, ap, _∙_}
 use mathlib.Core.List.{List}
 use Prim.Native.Nat.{ℕ}
 use native.Mathlib.Omega.{arith}
-use lib.ListN.{length, take, drop, length-drop}
+use lib.ListN.{length, drop, length-drop}
 use lib.Seq.{length-take-le}
 use Rattle.rules.specs.Bytes.{Text}
 use Rattle.rules.specs.Sizes.{maxRecords}
 use Rattle.rules.specs.Values.{recordSize, textSize}
 use Rattle.rules.specs.Sheet.{texts}
 use Rattle.theory.specs.Layout.{length-texts}
-use Rattle.sheet_kept.specs.Kept.{Held, named, kept}
+use Rattle.sheet_kept.specs.Kept.{Held, named}
 use Rattle.sheet_kept.specs.Sizes.{kept-records}
 use Rattle.eval_writer.specs.Contracts.{InRoom}
 use Rattle.eval_writer.specs.declared.Out.{Out}

@@ -1,38 +1,38 @@
 -- A document that was read, with its keys' numbers and its root's links, in a job's memory; it stays while answers are kept.
 use mathlib.Core.Path.{_≡_, refl, sym, ap, subst, _∙_}
-use mathlib.Core.Bool.{Bool, true, false, cond}
-use mathlib.Core.List.{List, [], _∷_}
+use mathlib.Core.Bool.{false}
+use mathlib.Core.List.{List}
 use mathlib.Core.Option.{some}
-use Prim.Native.Nat.{ℕ, zero, suc, _+_, _-_, _*_, _≤_, _<_}
+use Prim.Native.Nat.{ℕ, _+_, _-_, _*_, _≤_, _<_}
 use native.Mathlib.Omega.{arith}
-use lib.Dec.{ltb, leb, eqb}
+use lib.Dec.{ltb}
 use lib.ListN.{length, getD, getElem?, take, drop}
 use borrow.Author.Tests.{le-leb}
-use Rattle.rules.specs.Bytes.{Text, byteAt, same}
+use Rattle.rules.specs.Bytes.{Text, byteAt}
 use Rattle.rules.specs.Sizes.{maxUnresolved}
-use Rattle.rules.specs.Tree.{Node, unresolved, Fields, Root, fields, elements, rootNode, AllNode, AllPieces}
+use Rattle.rules.specs.Tree.{Node, unresolved, Root, fields, elements, rootNode, AllNode, AllPieces}
 use Rattle.rules.specs.Unresolved.{Unresolved}
 use Rattle.rules.specs.Documents.{Setting}
-use Rattle.theory.specs.Numbering.{Prepared, numbers-below, all-node, all-pieces}
+use Rattle.theory.specs.Numbering.{Prepared, numbers-below, all-node}
 use Rattle.theory_text.specs.Choices.{getElem-length}
 use Rattle.theory.specs.Reach.{Each, InRange, each-at}
 use Rattle.theory.specs.Rules.{Listed, all-listed, top}
 use Rattle.text_chars.specs.Parts.{part-slice}
 use Rattle.doc_items.specs.Codes.{asMember}
-use Rattle.doc_items.specs.Holds.{FieldsAt, NodeAt}
+use Rattle.doc_items.specs.Holds.{NodeAt}
 use Rattle.doc_items.specs.Moving.{Grown}
 use Rattle.doc_items.specs.Parts.{numbers, letters}
 use Rattle.doc_items.specs.Room.{capacity, textRoom, answersAt, indexAt}
 use Rattle.read_numbering.specs.Contracts.{itemOf}
-use Rattle.eval_keys.specs.Texts.{textOf, text-length, text-same}
-use Rattle.eval_keys.specs.Columns.{keysAt, firstsAt, nextsAt, isField, keyText, keyAt, firstAt, nextAt}
-use Rattle.eval_keys.specs.Numbers.{Numbered, NoneBefore, Found, absent, here, numberOf, firstOf}
+use Rattle.eval_keys.specs.Texts.{text-length, text-same}
+use Rattle.eval_keys.specs.Columns.{keysAt, firstsAt, nextsAt, isField, keyText, firstAt, nextAt}
+use Rattle.eval_keys.specs.Numbers.{Found, absent, here, numberOf}
 use Rattle.eval_keys.specs.Finding.{found-is, first-is}
 use Rattle.eval_keys.specs.Adding.{none-same}
 use Rattle.eval_keys.specs.Stores.{text-kept}
 use Rattle.eval_keys.specs.Documents.{text-slice}
 use Rattle.eval_keys.specs.Uses.{numbered-stays, number-small}
-use Rattle.eval_root.specs.Links.{Follows, follows-same, every-map}
+use Rattle.eval_root.specs.Links.{follows-same, every-map}
 use Rattle.eval_root.specs.Documents.{Keyed, RootLinked, placesOf}
 use Rattle.eval_writer.specs.Model.{wordAt}
 use Rattle.eval_writer.specs.Keys.{KeyIn}

@@ -1,10 +1,10 @@
 -- One more answer: it stands where the trail has it, and all that stood stays.
 use mathlib.Core.Path.{_≡_, refl, sym, ap, subst, _∙_}
-use mathlib.Core.Logic.{_⊎_, inl, inr}
+use mathlib.Core.Logic.{inl, inr}
 use mathlib.Core.Bool.{Bool, true, false, cond}
 use mathlib.Core.List.{List, [], _∷_, _++_, append-assoc, append-nil}
 use mathlib.Core.Option.{Option, none, some}
-use Prim.Native.Nat.{ℕ, suc, _+_, _-_, _≤_, _<_}
+use Prim.Native.Nat.{ℕ, _+_, _-_, _≤_, _<_}
 use native.Mathlib.Omega.{arith}
 use lib.Dec.{eqb}
 use lib.ListN.{length, getD, set, drop, length-set, length-append, length-drop}
@@ -17,13 +17,11 @@ use Rattle.rules.specs.Values.{Value, Answer, recordSize, textSize}
 use Rattle.rules.specs.Sheet.{texts, answerTexts, entrySize, answerTextSize, trailSize, trailTextSize, trailTexts}
 use Rattle.rules.specs.Documents.{Setting}
 use Rattle.theory.specs.Layout.{length-texts, length-trailTexts}
-use Rattle.theory.specs.TrailAnswers.{answerAt, answerTextAt, answer-new, answer-text-new, answer-stays, answer-text-stays}
+use Rattle.theory.specs.TrailAnswers.{answerAt, answer-new, answer-text-new, answer-stays, answer-text-stays}
 use Rattle.sheet_kept.specs.Sets.{drop-sets, sets-behind, set-stands}
-use Rattle.doc_items.specs.Room.{capacity, textRoom, answersAt, sheetAt, trailAt}
-use Rattle.eval_keys.specs.Columns.{keysAt}
-use Rattle.eval_tables.specs.Keys.{KeyNumber}
+use Rattle.doc_items.specs.Room.{textRoom, answersAt, sheetAt, trailAt}
 use Rattle.eval_tables.specs.Finished.{Memory}
-use Rattle.eval_state.specs.Memories.{jobBytes, answersOf}
+use Rattle.eval_state.specs.Memories.{answersOf}
 use Rattle.eval_state.specs.Documents.{SameDocument, document-stays, key-number}
 use Rattle.eval_state.specs.Values.{KeptAt, set-below}
 use Rattle.eval_state.specs.State.{AnswerIn, State, Behind, answer-still}

@@ -5,7 +5,7 @@ use mathlib.Core.List.{List, [], _∷_, _++_}
 use mathlib.Core.Option.{Option, none, some}
 use Prim.Native.Nat.{ℕ, suc, _+_, _-_, _≤_, _<_}
 use native.Mathlib.Omega.{arith}
-use lib.ListN.{length, getD, set, drop, length-set, length-drop, length-append}
+use lib.ListN.{length, getD, set, drop, length-set, length-drop}
 use lib.Seq.{drop-cons, getD-set-other}
 use Rattle.answers.specs.Ask.{Trail, lookup}
 use Rattle.rules.specs.Bytes.{Text}
@@ -14,11 +14,10 @@ use Rattle.rules.specs.Values.{Value, Answer, recordSize, textSize}
 use Rattle.rules.specs.Sheet.{texts, trailSize, trailTextSize, trailTexts}
 use Rattle.rules.specs.Documents.{Setting}
 use Rattle.theory.specs.Layout.{length-texts, length-trailTexts}
-use Rattle.theory.specs.TrailAnswers.{answerAt, answerTextAt, answer-in}
+use Rattle.theory.specs.TrailAnswers.{answer-in}
 use Rattle.sheet_kept.specs.Kept.{named, kept}
 use Rattle.sheet_kept.specs.Sizes.{kept-records}
-use Rattle.sheet_kept.specs.Standing.{Stands}
-use Rattle.doc_items.specs.Room.{textRoom, answersAt, sheetAt, trailAt, bytesRoom}
+use Rattle.doc_items.specs.Room.{answersAt, sheetAt, trailAt, bytesRoom}
 use Rattle.eval_tables.specs.Keys.{KeyNumber}
 use Rattle.eval_tables.specs.Finished.{SettledAt}
 use Rattle.eval_state.specs.Memories.{begunAt, memoryUsed, answersOf}

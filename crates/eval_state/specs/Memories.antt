@@ -5,7 +5,7 @@
 -- The bytes go on behind the trail's records:
 --   pairRecordsAt   the records of two finished objects that merge, each with half of the room
 --   pairTextsAt     their texts, likewise
-use Prim.Native.Nat.{ℕ, _+_, _≤_, _<_}
+use Prim.Native.Nat.{ℕ, _+_, _<_}
 use mathlib.Core.Path.{_≡_}
 use mathlib.Core.List.{List}
 use lib.ListN.{take, drop}

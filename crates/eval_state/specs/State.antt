@@ -1,33 +1,27 @@
 -- What stands in a job's memory between two steps: the document, and the answers of the trail, each where its public record is in the trail;
 -- their texts are the sheet's so far.
-use mathlib.Core.Path.{_≡_, refl, sym, ap, subst, _∙_}
+use mathlib.Core.Path.{_≡_}
 use mathlib.Core.Logic.{_⊎_, inl, inr}
-use mathlib.Core.Bool.{Bool, true, false, cond}
-use mathlib.Core.List.{List, [], _∷_, _++_, append-assoc}
+use mathlib.Core.List.{List, _++_}
 use mathlib.Core.Option.{Option, none, some}
-use Prim.Native.Nat.{ℕ, suc, _+_, _-_, _≤_, _<_}
+use Prim.Native.Nat.{ℕ, _+_, _-_, _≤_, _<_}
 use native.Mathlib.Omega.{arith}
-use lib.Dec.{eqb}
-use lib.ListN.{length, getD, set, drop, length-append, length-drop}
-use lib.Seq.{sets, length-sets, getD-set-same, getD-set-other}
-use borrow.Author.Tests.{eqb-true}
+use lib.ListN.{length, getD, drop}
+use lib.Seq.{sets, length-sets}
 use Rattle.answers.specs.Ask.{Trail, lookup}
 use Rattle.rules.specs.Bytes.{Text}
 use Rattle.rules.specs.Sizes.{maxUnresolved, maxRoom}
-use Rattle.rules.specs.Values.{Value, Answer, recordSize, textSize}
-use Rattle.rules.specs.Sheet.{texts, answerTexts, entrySize, answerTextSize, trailSize, trailTextSize, trailTexts}
+use Rattle.rules.specs.Values.{Answer, recordSize}
+use Rattle.rules.specs.Sheet.{texts, trailSize, trailTextSize, trailTexts}
 use Rattle.rules.specs.Documents.{Setting}
-use Rattle.theory.specs.Layout.{length-trailTexts}
-use Rattle.theory.specs.TrailAnswers.{answerAt, answerTextAt, answer-new, answer-text-new, answer-stays, answer-text-stays, answer-in}
-use Rattle.sheet_kept.specs.Sets.{drop-sets, sets-behind, set-stands, drop-below}
-use Rattle.doc_items.specs.Room.{capacity, textRoom, answersAt, sheetAt, trailAt}
-use Rattle.eval_keys.specs.Columns.{keysAt}
+use Rattle.theory.specs.TrailAnswers.{answerAt, answerTextAt, answer-in}
+use Rattle.doc_items.specs.Room.{answersAt, sheetAt, trailAt}
 use Rattle.eval_tables.specs.Keys.{KeyNumber}
 use Rattle.eval_tables.specs.Finished.{Memory}
 use Rattle.eval_tables.specs.Tables.{AnswerAt, Tables}
-use Rattle.eval_state.specs.Memories.{memoryAt, answersOf, pairOf}
-use Rattle.eval_state.specs.Documents.{DocumentIn, SameDocument, document-stored, document-stays, key-number}
-use Rattle.eval_state.specs.Values.{KeptAt, Apart, kept-still, set-below}
+use Rattle.eval_state.specs.Memories.{answersOf, pairOf}
+use Rattle.eval_state.specs.Documents.{DocumentIn, document-stored}
+use Rattle.eval_state.specs.Values.{KeptAt, Apart, kept-still}
 
 -- an answer, and the table's number for it
 abbrev pub AnswerIn : Memory → Trail Answer → ℕ → Option Answer → ℕ → Type 0

@@ -1,13 +1,13 @@
 -- Finished values that were kept: where their records and their texts begin; they stay while other bytes are written.
-use mathlib.Core.Path.{_≡_, refl, sym, ap, subst, _∙_}
-use mathlib.Core.Logic.{_⊎_, inl, inr}
+use mathlib.Core.Path.{_≡_, refl, ap, _∙_}
+use mathlib.Core.Logic.{_⊎_}
 use mathlib.Core.List.{List, [], _∷_}
 use Prim.Native.Nat.{ℕ, suc, _+_, _≤_, _<_}
 use native.Mathlib.Omega.{arith}
 use lib.ListN.{length, getD, set}
 use lib.Seq.{sets, getD-set-other}
 use Rattle.rules.specs.Bytes.{Text}
-use Rattle.rules.specs.Sizes.{maxNesting, maxRecords, maxText, maxRoom}
+use Rattle.rules.specs.Sizes.{maxNesting, maxText, maxRoom}
 use Rattle.rules.specs.Values.{Value, recordSize, textSize, nestingOf}
 use Rattle.rules.specs.NamedValues.{Distinct}
 use Rattle.rules.specs.Sheet.{texts}

@@ -11,7 +11,7 @@ use Rattle.eval_sizes.specs.declared.Outcome.{Outcome}
 use Rattle.eval_order.specs.Contracts.{BeginAsked, BeginIs, LayAsked, LayIs, NoneAsked, NoneIs}
 use Rattle.eval_order.specs.declared.Progress.{Progress}
 use Rattle.eval_order.specs.declared.Step.{Step}
-use Rattle.eval_turns.specs.Contracts.{newest, LaidIs, BegunAsked, BegunIs, TurnNeeds, TurnAsked, TurnIs, ItemIs}
+use Rattle.eval_turns.specs.Contracts.{LaidIs, BegunAsked, BegunIs, TurnNeeds, TurnAsked, TurnIs, ItemIs}
 use Rattle.eval_turns.specs.declared.Next.{Next}
 
 -- ---- an answer is laid

@@ -6,11 +6,11 @@ use mathlib.Core.List.{List, [], _∷_, reverse}
 use mathlib.Core.Option.{Option, some}
 use native.Mathlib.Omega.{arith}
 use lib.ListN.{length, getD}
-use Rattle.answers.specs.Ask.{value, then}
+use Rattle.answers.specs.Ask.{value}
 use Rattle.rules.specs.Tree.{simple, array, object, unresolved, heightOf}
 use Rattle.rules.specs.Values.{Value, scalar, arrayOf, objectOf, Answer, nestingOf}
 use Rattle.rules.specs.NamedValues.{Distinct}
-use Rattle.rules.specs.Layers.{Layer, written, settled, Counted, one, merged, ofObjects}
+use Rattle.rules.specs.Layers.{Layer, written, settled, Counted, ofObjects}
 use Rattle.rules.specs.Settled.{Given, gatherIn, nodeIn, mergedIn, layerIn, countedIn, valueIn}
 use Rattle.theory.specs.MergedValues.{one-by-layers}
 use Rattle.doc_items.specs.Codes.{codeOf, asMember, asPiece}

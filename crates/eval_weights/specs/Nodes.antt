@@ -1,5 +1,4 @@
 -- A node has no more nodes than its item has items.
-use mathlib.Core.Path.{_≡_}
 use Prim.Native.Nat.{ℕ, suc, _+_, _*_, _≤_}
 use mathlib.Core.Option.{Option}
 use native.Mathlib.Omega.{arith}

@@ -1,10 +1,10 @@
 -- What a document weighs in a job's memory, with the answers of the trail: the bounds that leave room on the stack of layers.
 use mathlib.Core.Path.{_≡_}
-use Prim.Native.Nat.{ℕ, _+_, _*_, _≤_, _<_}
+use Prim.Native.Nat.{ℕ, _+_, _*_, _≤_}
 use mathlib.Core.List.{List}
 use mathlib.Core.Option.{Option, some}
 use native.Mathlib.Omega.{arith}
-use lib.ListN.{length, getElem?}
+use lib.ListN.{getElem?}
 use Rattle.answers.specs.Ask.{Trail, lookup}
 use Rattle.rules.specs.Bytes.{Text}
 use Rattle.rules.specs.Tree.{Pieces, no-pieces, nodePiece, substituted, rootNode}
@@ -16,7 +16,7 @@ use Rattle.doc_items.specs.Room.{textRoom}
 use Rattle.doc_items.specs.Parts.{numbers, letters}
 use Rattle.read_numbering.specs.Contracts.{itemOf}
 use Rattle.theory_weights.specs.Sums.{trail-weighs}
-use Rattle.theory_weights.specs.Numbered.{nodesOf, answersWeigh, root-weighs, pieces-weigh}
+use Rattle.theory_weights.specs.Numbered.{answersWeigh, root-weighs, pieces-weigh}
 use Rattle.eval_state.specs.Memories.{NumberIn}
 use Rattle.eval_state.specs.State.{State}
 use Rattle.eval_weights.specs.Nodes.{PiecesBelow, node-items, pieces-items}

@@ -2,7 +2,7 @@
 use mathlib.Core.Path.{_≡_, refl, sym, ap, _∙_}
 use mathlib.Core.List.{List, [], _∷_}
 use mathlib.Core.Option.{Option, none, some}
-use Prim.Native.Nat.{ℕ, zero, suc, _+_, _-_, _*_, _≤_, _<_}
+use Prim.Native.Nat.{ℕ, zero, suc, _+_, _-_, _*_, _<_}
 use native.Mathlib.Omega.{arith}
 use lib.ListN.{length, getD, getElem?}
 use Rattle.answers.specs.Ask.{lookup, run}
@@ -18,15 +18,13 @@ use Rattle.theory_order.specs.WorkLaws.{WorkAt, turn-refuses, turn-missing, tur
 use Rattle.doc_items.specs.Codes.{unresolvedItem}
 use Rattle.doc_items.specs.Holds.{NodeAt}
 use Rattle.doc_items.specs.Parts.{numbers, letters}
-use Rattle.doc_items.specs.Room.{indexAt, capacity, textRoom}
-use Rattle.eval_tables.specs.Tables.{WrittenAt}
+use Rattle.doc_items.specs.Room.{indexAt, textRoom}
 use Rattle.eval_state.specs.Memories.{NumberIn, answersOf}
 use Rattle.eval_state.specs.Documents.{DocumentIn, UnresolvedAt}
 use Rattle.eval_state.specs.State.{State}
 use Rattle.eval_state.specs.Later.{later-beside, later-then}
 use Rattle.eval_sizes.specs.declared.Outcome.{Outcome}
 use Rattle.eval_unresolved.specs.Contracts.{Asked, Questioned, OutcomeCase, OutcomeIs}
-use Rattle.eval_order.specs.Contracts.{Holding}
 use Rattle.eval_order.specs.declared.Progress.{Progress}
 use Rattle.eval_turns.specs.Contracts.{newest, ItemIs}
 use Rattle.eval_questions.specs.Work.{Lent, WorkAsked}

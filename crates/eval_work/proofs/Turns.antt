@@ -2,15 +2,14 @@
 use mathlib.Core.Path.{_≡_, refl, sym, ap, subst, _∙_}
 use mathlib.Core.List.{List, [], _∷_}
 use mathlib.Core.Option.{none, some}
-use Prim.Native.Nat.{ℕ, suc, _+_, _-_, _*_, _≤_, _<_}
+use Prim.Native.Nat.{ℕ, suc, _-_, _≤_, _<_}
 use native.Mathlib.Omega.{arith}
 use lib.ListN.{length, getD, set}
 use lib.Seq.{getD-set-same}
 use Rattle.answers.specs.Ask.{lookup, run, value}
-use Rattle.rules.specs.Sizes.{maxUnresolved, maxRoom}
+use Rattle.rules.specs.Sizes.{maxUnresolved}
 use Rattle.rules.specs.Refusals.{placed, nowhere}
 use Rattle.rules.specs.Settled.{Given}
-use Rattle.rules.specs.Sheet.{trailSize, trailTextSize}
 use Rattle.rules.specs.Values.{Answer}
 use Rattle.rules.specs.Documents.{ruleOf}
 use Rattle.theory_order.specs.Turns.{stacked-length}
@@ -21,7 +20,7 @@ use Rattle.eval_state.specs.Later.{later-then}
 use Rattle.eval_writer.specs.Contracts.{Room}
 use Rattle.eval_sizes.specs.Outcomes.{OutcomeWithin}
 use Rattle.eval_sizes.specs.declared.Outcome.{Outcome}
-use Rattle.eval_order.specs.Contracts.{Holding, Begins, BeginIs, Lays, LayIs, NoneIs}
+use Rattle.eval_order.specs.Contracts.{Holding, Begins, Lays, LayIs, NoneIs}
 use Rattle.eval_order.specs.declared.Progress.{Progress}
 use Rattle.eval_order.specs.declared.Step.{Step}
 use Rattle.eval_turns.specs.Contracts.{newest, Laid, LaidIs, begunNext, begunList, TurnNeeds, TurnCase, TurnIs}

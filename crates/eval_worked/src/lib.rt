@@ -5,7 +5,6 @@ use eval_extents::clip;
 use eval_extents::with_more;
 use eval_writer::Out;
 use eval_writer::put_head;
-ghost use mathlib.Core.Path.{_≡_};
 ghost use Prim.Native.Nat.{_≤_};
 ghost use Rattle.eval_writer.specs.Contracts.{Room};
 ghost use Rattle.eval_extents.specs.Contracts.{far, NotPast};

@@ -6,7 +6,7 @@ use mathlib.Core.List.{List, [], _∷_, _++_}
 use native.Mathlib.Omega.{arith}
 use lib.ListN.{length}
 use Rattle.rules.specs.Bytes.{Text}
-use Rattle.rules.specs.Tree.{Scalar, null, boolean, number, string}
+use Rattle.rules.specs.Tree.{null, boolean, number, string}
 use Rattle.rules.specs.Values.{recordSize, textSize}
 use Rattle.rules.specs.Sheet.{two, textRecord, scalarRecord}
 use Rattle.sheet_kept.specs.Kept.{Held, simple, listed, keyed, Helds, no-helds, HeldFields, no-fields, named, countHelds, countFields, keyRecord}
@@ -14,7 +14,7 @@ use Rattle.sheet_kept.specs.Kept.{kept, keptAll, keptFields}
 use Rattle.sheet_kept.specs.InTurn.{flatScalar, flat, flatAll, flatFields, Word, wordsRec, wordsOf, extent}
 use Rattle.sheet_kept.specs.Sizes.{kept-records, value-extent}
 use Rattle.sheet_kept.specs.Building.{withHeld, withField, kept-held, kept-field, words-held, words-field}
-use Rattle.eval_writer.specs.Model.{wordAt, puts, keyAt, keyLen}
+use Rattle.eval_writer.specs.Model.{wordAt, keyAt}
 use Rattle.eval_writer.specs.Contracts.{Puts, Wrote, KeyWrote, Written}
 use Rattle.eval_writer.specs.Keys.{KeyIn}
 use Rattle.eval_writer.specs.Composition.{wrote-none, wrote-then, wrote-head}

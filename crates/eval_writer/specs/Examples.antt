@@ -1,7 +1,7 @@
 -- What has no room is left out: bytes of records one by one, a text as a whole.
 use mathlib.Core.Path.{_≡_, refl}
 use Prim.Native.Nat.{ℕ}
-use mathlib.Core.List.{List, [], _∷_}
+use mathlib.Core.List.{[], _∷_}
 use lib.Seq.{sets}
 use Rattle.eval_writer.specs.Model.{wordAt, puts}
 

@@ -4,7 +4,7 @@ use Prim.Native.Nat.{ℕ}
 use mathlib.Core.List.{List, _++_}
 use lib.ListN.{length, take}
 use lib.Seq.{take-at}
-use Rattle.rules.specs.Jobs.{Resolved, filled, Buffers, buffersOf}
+use Rattle.rules.specs.Jobs.{Resolved, filled, buffersOf}
 use Rattle.job_resolved.specs.Answers.{Told, resolutionTold, resolvedTold}
 use Rattle.job_resolved.specs.declared.Resolution.{Resolution}
 use Rattle.job_buffers.specs.Contracts.{ClearedIs, FinishedIs}

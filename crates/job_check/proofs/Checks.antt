@@ -1,15 +1,14 @@
 -- Laws of the job: its inputs are read, then the sheet is held against the document.
-use mathlib.Core.Path.{_≡_, refl, sym, _∙_, ap, subst}
-use mathlib.Core.Bool.{Bool, true, false}
-use mathlib.Core.List.{List, []}
-use mathlib.Core.Option.{some}
-use Prim.Native.Nat.{ℕ, _+_, _≤_, _<_}
+use mathlib.Core.Path.{_≡_, sym, _∙_, ap, subst}
+use mathlib.Core.Bool.{Bool, true}
+use mathlib.Core.List.{List}
+use Prim.Native.Nat.{ℕ, _≤_}
 use native.Mathlib.Omega.{arith}
 use lib.ListN.{length}
 use Rattle.answers.specs.Theory.Sound.{clash}
-use Rattle.rules.specs.Sizes.{maxRoom, maxUnresolved}
+use Rattle.rules.specs.Sizes.{maxRoom}
 use Rattle.rules.specs.Refusals.{Refusal, numberOf, placeOf}
-use Rattle.rules.specs.Documents.{Setting, Input, valid, refused, inputs, countOf}
+use Rattle.rules.specs.Documents.{Setting, valid, refused, inputs}
 use Rattle.rules.specs.Jobs as J
 use Rattle.rules.specs.Jobs.{verdict, checkJob}
 use Rattle.theory.specs.Heights.{setting-height}
@@ -23,7 +22,6 @@ use Rattle.eval_writer.specs.Contracts.{Room}
 use Rattle.eval_records.specs.Contracts.{mostBytes}
 use Rattle.eval_stack.specs.Model.{Work}
 use Rattle.eval_state.specs.Memories.{jobTable, jobBytes}
-use Rattle.job_resolved.specs.Answers.{verdictOf}
 use Rattle.job_resolved.specs.Contracts.{CheckIs}
 use Rattle.job_resolved.specs.declared.Verdict.{Verdict}
 use Rattle.job_tasks.specs.Contracts.{Ready, TaskCase, TaskIs}

@@ -14,7 +14,7 @@ use Rattle.rules.specs.Bytes.{Text}
 use Rattle.rules.specs.Sizes.{maxRoom}
 use Rattle.rules.specs.Refusals.{nowhere}
 use Rattle.rules.specs.Values.{Value, Answer, withinSize}
-use Rattle.rules.specs.Sheet.{records, texts, trailSize, trailTextSize, trailRecords, trailTexts, tableFits}
+use Rattle.rules.specs.Sheet.{records, texts, trailSize, trailTextSize, trailTexts, tableFits}
 use Rattle.rules.specs.Jobs.{refusedWith, sheetFor, handedBack}
 use Rattle.theory.specs.Layout.{both-true, length-records, length-texts, length-trailRecords, length-trailTexts}
 use Rattle.theory.specs.Jobs.{handed-sheet}

@@ -10,10 +10,9 @@ use borrow.Author.Tests.{le-leb, lt-leb, leb-true, leb-false}
 use Rattle.answers.specs.Ask.{Trail, lookup, run}
 use Rattle.rules.specs.Bytes.{Text}
 use Rattle.rules.specs.Tree.{rootNode, heightOf}
-use Rattle.rules.specs.Sizes.{maxNesting, maxRecords, maxText, maxRoom}
+use Rattle.rules.specs.Sizes.{maxNesting, maxRecords, maxText}
 use Rattle.rules.specs.Values.{Answer, nestingOf, recordSize, textSize, withinSize}
 use Rattle.rules.specs.Documents.{Setting}
-use Rattle.rules.specs.Sheet.{trailSize, trailTextSize}
 use Rattle.theory.specs.Resolving.{laid-within, rootOf}
 use Rattle.theory_check.specs.Steps.{CheckAt, root-needs}
 use Rattle.sheet_kept.specs.Kept.{Held, named}

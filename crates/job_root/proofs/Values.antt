@@ -1,11 +1,10 @@
 -- Laws of the root's value.
-use mathlib.Core.Path.{_≡_, refl, sym, ap, subst, _∙_}
+use mathlib.Core.Path.{_≡_, refl, ap, subst}
 use Prim.Native.Nat.{ℕ, _+_, _*_, _≤_}
-use mathlib.Core.List.{List, [], _∷_}
-use mathlib.Core.Option.{Option, none, some}
+use mathlib.Core.List.{List}
+use mathlib.Core.Option.{Option, some}
 use native.Mathlib.Omega.{arith}
-use lib.ListN.{length}
-use Rattle.answers.specs.Ask.{Trail, lookup, run, value, missing, refused, then}
+use Rattle.answers.specs.Ask.{lookup, value, missing, refused, then}
 use Rattle.answers.specs.Theory.Sound.{clash}
 use Rattle.rules.specs.Bytes.{Text}
 use Rattle.rules.specs.Sizes.{maxRoom, maxUnresolved}
@@ -14,14 +13,11 @@ use Rattle.rules.specs.Values.{Value, Values, Answer, arrayOf}
 use Rattle.rules.specs.Layers.{written}
 use Rattle.rules.specs.Settled.{Given, nodeIn, elementsIn, mergedIn, layerIn, valueIn}
 use Rattle.rules.specs.Weights.{weightOf}
-use Rattle.rules.specs.Documents.{Setting}
-use Rattle.theory.specs.Resolving.{rootOf}
 use Rattle.theory.specs.Depths.{shallow-within}
 use Rattle.theory.specs.SettledAnswers.{rootIn, run-root-of}
 use Rattle.doc_items.specs.Room.{textRoom, sheetAt, trailAt}
 use Rattle.eval_writer.specs.Composition.{start}
 use Rattle.eval_writer.specs.declared.Source.{Source}
-use Rattle.eval_extents.specs.declared.Extent.{Extent}
 use Rattle.eval_stack.specs.Model.{entries}
 use Rattle.eval_tables.specs.Keys.{KeyNumber}
 use Rattle.eval_tables.specs.Tables.{WrittenAt}
@@ -31,9 +27,9 @@ use Rattle.eval_state.specs.Memories.{answersOf}
 use Rattle.eval_state.specs.Documents.{root-written}
 use Rattle.eval_state.specs.State.{state-tables}
 use Rattle.eval_value_laws.specs.Ground.{Names}
-use Rattle.eval_value_laws.specs.Contracts.{Asked, Ground, LayerGiven, NodeIs}
+use Rattle.eval_value_laws.specs.Contracts.{Asked, Ground, NodeIs}
 use Rattle.eval_value_laws.specs.Given.{object-value}
-use Rattle.job_root.specs.Contracts.{RootAsked, RootGiven, RootDone, RootCase, RootIs}
+use Rattle.job_root.specs.Contracts.{RootAsked, RootCase, RootIs}
 
 abbrev answers : Source
 answers = record { rec = record { 0 = trailAt }; text = record { 0 = sheetAt } }

@@ -2,18 +2,18 @@
 use mathlib.Core.Path.{_≡_, refl, _∙_}
 use mathlib.Core.Bool.{Bool}
 use mathlib.Core.List.{List}
-use Prim.Native.Nat.{ℕ, _≤_, _<_}
+use Prim.Native.Nat.{ℕ, _≤_}
 use native.Mathlib.Omega.{arith}
 use lib.ListN.{length}
 use Rattle.theory.specs.Numbering.{prepared}
-use Rattle.doc_items.specs.Room.{capacity, tableRoom, textRoom}
+use Rattle.doc_items.specs.Room.{tableRoom, textRoom}
 use Rattle.text_chars.specs.declared.DocAt.{DocAt}
 use Rattle.read_documents.specs.Contracts.{InputsAs, InputsIs}
 use Rattle.read_documents.specs.declared.Reading.{Reading}
 use Rattle.eval_state.specs.Memories.{jobTable, jobBytes}
 use Rattle.eval_prepare.specs.Contracts.{PrepareAsked, PrepareIs}
 use Rattle.job_resolved.specs.Bits.{document-short}
-use Rattle.job_tasks.specs.Contracts.{TaskCase, TaskIs}
+use Rattle.job_tasks.specs.Contracts.{TaskIs}
 
 pub table-room : {n : ℕ} → jobTable ≤ n → tableRoom ≤ n
 table-room h = omega arith

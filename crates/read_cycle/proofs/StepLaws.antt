@@ -4,7 +4,6 @@ use Prim.Native.Nat.{ℕ, _+_, _-_, _≤_, _<_}
 use mathlib.Core.List.{List}
 use native.Mathlib.Omega.{arith}
 use lib.ListN.{length}
-use Rattle.text_chars.specs.declared.TextAt as chars
 use Rattle.text_chars.specs.Parts.{part, back, part-length, back-length}
 use Rattle.read_values.specs.declared.Run.{Run}
 use Rattle.read_pieces.specs.Pieces.{More, AddPieceIs}

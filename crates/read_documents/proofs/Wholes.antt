@@ -2,14 +2,14 @@
 use mathlib.Core.Path.{_≡_, refl, sym, ap, _∙_}
 use mathlib.Core.Bool.{Bool, true, false}
 use mathlib.Core.List.{List}
-use mathlib.Core.Option.{Option, none, some}
+use mathlib.Core.Option.{none, some}
 use Prim.Native.Nat.{ℕ, _+_, _*_, _-_, _≤_}
 use native.Mathlib.Omega.{arith}
 use lib.ListN.{length, getElem?}
 use Rattle.doc_items.specs.Room.{tableRoom, textRoom}
 use Rattle.rules.specs.Sizes.{maxNesting, maxItems}
-use Rattle.rules.specs.Refusals.{Refusal, placed, nowhere, numberOf, got, refused}
-use Rattle.rules.specs.Environment.{Variable, entriesOf, textOf}
+use Rattle.rules.specs.Refusals.{Refusal, placed, nowhere, got, refused}
+use Rattle.rules.specs.Environment.{textOf}
 use Rattle.rules.specs.Tree.{Root, numberRoot, numberNode}
 use Rattle.rules.specs.Unresolved.{Unresolved, unresolvedIn}
 use Rattle.rules.specs.Documents.{Document, valid, refused, limited, ofRoot, readTree, readDocument, withEnvironment, inputs}

@@ -1,7 +1,7 @@
 -- A document that was read is as the pass wants it: every unresolved value has pieces, none of them is unresolved itself, and
 -- the path of a substitution has 1 to 16 elements.
 use mathlib.Core.Path.{_≡_, refl, ap}
-use Prim.Native.Nat.{ℕ, zero, suc, _+_, _≤_, _<_}
+use Prim.Native.Nat.{ℕ, zero, suc, _+_}
 use native.Mathlib.Omega.{arith}
 use mathlib.Core.List.{List, [], _∷_}
 use mathlib.Core.Bool.{Bool, true, false}

@@ -1,9 +1,9 @@
 -- What the buffers of a path hold, once its elements are whole: its bytes, and how long they are.
 use mathlib.Core.Path.{_≡_, refl, sym, _∙_, ap}
 use mathlib.Core.List.{List, [], _∷_, _++_, append-assoc, append-nil}
-use Prim.Native.Nat.{ℕ, zero, suc, _+_, _*_, _/_, _%_, _≤_, _<_}
+use Prim.Native.Nat.{ℕ, zero, suc, _+_, _/_, _%_, _≤_, _<_}
 use native.Mathlib.Omega.{arith}
-use lib.ListN.{length, getD, take, drop, length-append}
+use lib.ListN.{length, take, drop, length-append}
 use lib.Seq.{slice, take-add, drop-at, drop-drop, length-take-le}
 use Rattle.rules.specs.Bytes.{Text}
 use Rattle.rules.specs.Paths.{Element, textsOf, sizes}

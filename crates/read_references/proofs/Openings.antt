@@ -8,7 +8,7 @@ use lib.Dec.{ltb}
 use lib.ListN.{length, List·getD-eq-default}
 use borrow.Author.Tests.{ltb-true, ltb-false, eq-eqb, ne-eqb}
 use Rattle.rules.specs.Bytes.{byteAt}
-use Rattle.rules.specs.Characters.{nextPlace, afterInline}
+use Rattle.rules.specs.Characters.{afterInline}
 use Rattle.rules.specs.Paths.{braced, substitutionAt}
 use Rattle.theory_text.specs.Ascii.{ascii-character, ascii-byte, ascii-next}
 use Rattle.text_chars.specs.declared.Cursor.{Cursor}

@@ -9,7 +9,7 @@ use lib.ListN.{length, take, length-map}
 use borrow.Author.Tests.{eq-eqb, ne-eqb}
 use Rattle.rules.specs.Sizes.{maxPath}
 use Rattle.rules.specs.Bytes.{Text, byteAt}
-use Rattle.rules.specs.Refusals.{Refusal, numberOf, placeOf, notAllowed, ok, refused, andThen}
+use Rattle.rules.specs.Refusals.{Refusal, notAllowed, ok, refused, andThen}
 use Rattle.rules.specs.Paths.{segmentsAt, Element, elementsOf, judge, textsOf, braced, sizes}
 use Rattle.theory_text.specs.Ascii.{ascii-character, ascii-byte, ascii-next}
 use Rattle.text_chars.specs.declared.DocAt.{DocAt}

@@ -8,10 +8,8 @@ use Rattle.rules.specs.Bytes.{byteAt}
 use Rattle.rules.specs.Refusals.{ok}
 use Rattle.rules.specs.Paths.{substitutionAt}
 use Rattle.rules.specs.Tree.{Substitution}
-use Rattle.text_chars.specs.declared.DocAt.{DocAt}
 use Rattle.doc_items.specs.Codes.{referenceCode, pathTexts, pathBytes}
 use Rattle.read_pieces.specs.Pieces.{ScanRefuses}
-use Rattle.read_pieces.specs.declared.PieceItem.{PieceItem}
 use Rattle.read_pieces.specs.declared.PieceRead.{PieceRead}
 
 pub record ReferencePieceAsked (s : List ℕ) (at items : ℕ) (text : List ℕ) : Type 0 where

@@ -1,6 +1,6 @@
 -- The document as it was read: a tree of nodes. A node is a value as it is written.
 use Prim.Native.Nat.{ℕ, suc, max}
-use mathlib.Core.List.{List, []}
+use mathlib.Core.List.{List}
 use mathlib.Core.Bool.{Bool}
 use Rattle.rules.specs.Bytes.{Text}
 

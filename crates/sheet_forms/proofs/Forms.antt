@@ -1,13 +1,11 @@
 -- Laws of the functions: what each answer is, by what its place in the code knows.
-use mathlib.Core.Path.{_≡_, refl, sym, ap, _∙_}
-use mathlib.Core.Bool.{Bool, true, false, cond}
-use mathlib.Core.List.{List, [], _∷_, _++_}
+use mathlib.Core.Path.{_≡_, sym, ap, _∙_}
+use mathlib.Core.List.{List}
 use Prim.Native.Nat.{ℕ, _+_, _-_, _*_, _/_, _%_, _≤_, _<_}
 use native.Mathlib.Omega.{arith}
-use lib.ListN.{length, getD}
-use lib.Dec.{ltb, leb, eqb}
+use lib.ListN.{getD}
 use borrow.Author.Tests.{lt-ltb, le-ltb, le-leb, lt-leb, eq-eqb, ne-eqb}
-use Rattle.sheet_forms.specs.Model.{shapeOf, textC, headC, keyC, recordBy, recordC, sizeOf, textLenOf}
+use Rattle.sheet_forms.specs.Model.{shapeOf, textC, headC, keyC, recordBy, recordC}
 use Rattle.sheet_forms.specs.Contracts.{Wide, ShapeIs, TextIs, HeadIs, KeyIs, RecordIs, SizeIs, TextLenIs}
 use Rattle.sheet_forms.specs.declared.Form.{Form}
 use Rattle.sheet_forms.specs.declared.Shape.{Shape}

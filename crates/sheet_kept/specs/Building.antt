@@ -1,14 +1,14 @@
 -- Members that come one by one, each behind those before it: how records, texts and depth grow.
 use mathlib.Core.Path.{_≡_, refl, sym, ap, _∙_}
 use Prim.Native.Nat.{ℕ, suc, _+_, max}
-use mathlib.Core.List.{List, [], _∷_, _++_, append-assoc, append-nil}
+use mathlib.Core.List.{List, _∷_, _++_, append-assoc, append-nil}
 use native.Mathlib.Omega.{arith}
 use lib.ListN.{length}
 use Rattle.rules.specs.Bytes.{Text}
 use Rattle.rules.specs.Values.{nestingOf, deepestValue, deepestMember}
 use Rattle.sheet_kept.specs.Kept.{Held, Helds, no-helds, also, HeldFields, no-fields, field, named, namedAll, namedFields}
 use Rattle.sheet_kept.specs.Kept.{countHelds, countFields, keyRecord, kept, keptAll, keptFields}
-use Rattle.sheet_kept.specs.InTurn.{Rec, name, textOf, keptRec, inTurn, textsOf, flat, flatAll, flatFields, Word, wordsOf, extent}
+use Rattle.sheet_kept.specs.InTurn.{Rec, name, textOf, keptRec, inTurn, textsOf, flat, flatAll, flatFields, wordsOf, extent}
 use Rattle.sheet_kept.specs.InTurn.{inTurn-append, kept-flat, kept-flat-all, kept-flat-fields}
 use Rattle.sheet_kept.specs.Sizes.{words-append, words-extent}
 

@@ -2,15 +2,15 @@
 use mathlib.Core.Path.{_≡_, refl, sym, ap, _∙_}
 use Prim.Native.Nat.{ℕ, zero, suc, _+_, _-_, _*_, _≤_, _<_}
 use mathlib.Core.Bool.{Bool, true, false, cond}
-use mathlib.Core.List.{List, [], _∷_, _++_}
+use mathlib.Core.List.{List, [], _++_}
 use native.Mathlib.Omega.{arith}
 use mir.Val.{Fits}
 use mir.Syntax.{w64}
 use lib.ListN.{length}
 use lib.Seq.{sets, length-sets}
 use Rattle.sheet_kept.specs.Sets.{sets-append}
-use Rattle.sheet_forms.specs.Model.{recordC, codeOf, sizeOf, textLenOf}
-use Rattle.sheet_forms.specs.Contracts.{RecordIs, SizeIs, TextLenIs, twoBytes}
+use Rattle.sheet_forms.specs.Model.{codeOf, sizeOf, textLenOf}
+use Rattle.sheet_forms.specs.Contracts.{RecordIs, SizeIs, TextLenIs}
 use Rattle.sheet_forms.specs.Sheet.{code-size}
 use Rattle.sheet_layout.specs.Model.{laysBy, lays, eqAt}
 use Rattle.sheet_layout.specs.Contracts.{StoreIs, SameIs, LayIs, SameRecordsIs}

@@ -2,13 +2,13 @@
 use mathlib.Core.Path.{_≡_, refl, sym, ap, _∙_}
 use Prim.Native.Nat.{ℕ, suc, _+_, _≤_, _<_}
 use mathlib.Core.Bool.{Bool, true, false, cond}
-use mathlib.Core.List.{List, [], _∷_, _++_}
+use mathlib.Core.List.{List, [], _∷_}
 use native.Mathlib.Omega.{arith}
 use lib.ListN.{length, getD, set}
-use lib.Seq.{sets, length-sets, lt-length-set}
+use lib.Seq.{length-sets, lt-length-set}
 use lib.Dec.{eqb}
 use borrow.Author.Tests.{eq-eqb, ne-eqb}
-use Rattle.sheet_forms.specs.Model.{codeOf, sizeOf}
+use Rattle.sheet_forms.specs.Model.{sizeOf}
 use Rattle.sheet_layout.specs.Model.{eqAt}
 use Rattle.sheet_layout.specs.Contracts.{SetIs, EqIs, StoreIs, SameIs}
 use Rattle.sheet_layout.specs.Compared.{eqAt-append}

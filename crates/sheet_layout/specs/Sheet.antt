@@ -2,15 +2,15 @@
 use mathlib.Core.Path.{_≡_, refl, sym, ap, _∙_}
 use mathlib.Core.Logic.{_↔_}
 use Prim.Native.Nat.{ℕ, zero, suc, _+_, _-_, _≤_, _<_}
-use mathlib.Core.Bool.{Bool, true, false}
+use mathlib.Core.Bool.{true}
 use mathlib.Core.List.{List, [], _∷_, _++_, append-assoc}
 use native.Mathlib.Omega.{arith}
 use lib.ListN.{length, take, drop, length-append, take-append-drop}
 use lib.Seq.{sets, sets-eq, drop-drop, drop-append-seam, length-take-le}
 use borrow.Author.Tests.{le-leb}
 use Rattle.rules.specs.Bytes.{Text}
-use Rattle.sheet_kept.specs.Kept.{Held, named, kept, layout}
-use Rattle.sheet_kept.specs.InTurn.{Rec, textOf, keptRec, laidRec, inTurn, textsOf, flat, flat-size, kept-flat, layout-flat}
+use Rattle.sheet_kept.specs.Kept.{Held, kept, layout}
+use Rattle.sheet_kept.specs.InTurn.{Rec, textOf, keptRec, inTurn, textsOf, flat, flat-size, kept-flat, layout-flat}
 use Rattle.sheet_kept.specs.Sizes.{kept-size}
 use Rattle.sheet_forms.specs.Model.{recordC, codeOf, sizeOf, textLenOf}
 use Rattle.sheet_forms.specs.Sheet.{Rights, flat-right, recordOf, recForm, read, record-code, record-some, record-size, record-more}

@@ -1,14 +1,14 @@
 -- Laws of the tests.
-use mathlib.Core.Path.{_≡_, refl, sym, ap, _∙_}
+use mathlib.Core.Path.{_≡_, ap, _∙_}
 use Prim.Native.Nat.{ℕ, _+_, _≤_, _<_}
-use mathlib.Core.Bool.{Bool, true, false, _&&_}
+use mathlib.Core.Bool.{Bool, false, _&&_}
 use mathlib.Core.List.{_∷_}
 use native.Mathlib.Omega.{arith}
 use lib.Dec.{leb}
 use borrow.Author.Tests.{le-leb, lt-leb}
 use Rattle.answers.specs.Ask.{Trail}
 use Rattle.rules.specs.Sizes.{maxNesting, maxRecords, maxText}
-use Rattle.rules.specs.Values.{Value, Answer, nestingOf, recordSize, textSize, withinSize}
+use Rattle.rules.specs.Values.{Answer, withinSize}
 use Rattle.rules.specs.Sheet.{entrySize, answerTextSize, trailSize, trailTextSize, trailFits, tableFits}
 use Rattle.sheet_sizes.specs.Contracts.{WithinIs, EntryFitsIs, TableFitsIs}
 use Rattle.sheet_sizes.specs.declared.Sizes.{Sizes}

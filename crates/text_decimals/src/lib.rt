@@ -8,7 +8,6 @@ use text_chars::DocAt;
 use text_chars::byte_at;
 use text_numbers::Number;
 use text_scan::look;
-ghost use mathlib.Core.Path.{_≡_};
 ghost use Prim.Native.Nat.{_≤_};
 ghost use lib.ListN.{length};
 ghost use Rattle.rules.specs.Sizes.{maxDocument};

@@ -3,8 +3,6 @@ use Prim.Native.Nat.{ℕ, _+_, _*_}
 use mathlib.Core.Bool.{Bool, true, false, cond}
 use lib.Dec.{eqb}
 use Rattle.rules.specs.Sizes.{maxDocument}
-use Rattle.text_chars.specs.declared.DocAt.{DocAt}
-use Rattle.text_chars.specs.declared.TextAt.{TextAt}
 use Rattle.text_elements.specs.declared.Path.{Path}
 
 -- what the texts of a path's elements stay below, with those of one piece more

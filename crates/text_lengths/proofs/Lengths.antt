@@ -8,7 +8,6 @@ use native.Mathlib.Omega.{arith}
 use lib.ListN.{length}
 use borrow.Author.Tests.{eq-eqb, ne-eqb}
 use Rattle.rules.specs.Utf8.{illFormed}
-use Rattle.rules.specs.Micrometres as rules
 use Rattle.rules.specs.Micrometres.{inch, noLength, decimalOf, afterSpace, unitAt, inMicrometres, withUnit, withRest, lengthOf}
 use Rattle.text_chars.specs.Clash.{clash}
 use Rattle.text_chars.specs.Cursor.{illAt}

@@ -12,7 +12,6 @@ use lib.Seq.{slice, slice-empty, slice-cons}
 use borrow.Author.Tests.{leb-true, leb-false}
 use Rattle.rules.specs.Bytes.{Text, byteAt}
 use Rattle.rules.specs.Sizes.{maxMicrometres}
-use Rattle.rules.specs.Micrometres as rules
 use Rattle.rules.specs.Micrometres.{inch, digitsValue, inMicrometres, noLength}
 use Rattle.text_chars.specs.Cursor.{ByteIs}
 use Rattle.text_chars.specs.Clash.{clash}

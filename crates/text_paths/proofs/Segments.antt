@@ -1,11 +1,11 @@
 -- The rules' segments and elements, one piece at a time.
-use mathlib.Core.Path.{_≡_, refl, sym, _∙_, ap}
+use mathlib.Core.Path.{_≡_, refl, _∙_, ap}
 use mathlib.Core.Bool.{Bool, true, false, cond, _&&_}
 use mathlib.Core.List.{List, [], _∷_, _++_}
 use Prim.Native.Nat.{ℕ, zero, suc, _+_, _-_, _≤_, _<_}
 use native.Mathlib.Omega.{arith}
 use lib.Dec.{ltb, eqb}
-use lib.ListN.{length, take, drop, length-take, drop-of-length-le}
+use lib.ListN.{length, take, length-take, drop-of-length-le}
 use lib.Seq.{slice}
 use borrow.Author.Tests.{ltb-false}
 use Rattle.rules.specs.Bytes.{byteAt}
@@ -15,7 +15,7 @@ use Rattle.rules.specs.Pieces.{Token, startsSimple, simpleAt}
 use Rattle.rules.specs.Paths.{Segment, segmentOf, gapSegment, segmentsFrom, Element, grown, splitText, splitFrom}
 use Rattle.theory_text.specs.Choices.{same-test}
 use Rattle.theory_text.specs.Places.{inline-reached}
-use Rattle.theory.specs.Scanning.{Scans, oks, scan-refuses, From, simple-inside, simple-scans}
+use Rattle.theory.specs.Scanning.{Scans, oks, scan-refuses, simple-inside, simple-scans}
 use Rattle.text_segments.specs.Pieces.{remaining, splitTo, segmentTo, pieceTo}
 use Rattle.text_segments.specs.Keeping.{split-is}
 

@@ -2,10 +2,10 @@
 use mathlib.Core.Path.{_≡_, refl, sym, _∙_, ap}
 use mathlib.Core.Bool.{Bool, true, false, _&&_}
 use mathlib.Core.List.{List, [], _∷_, _++_}
-use Prim.Native.Nat.{ℕ, zero, suc, _+_, _-_, _≤_, _<_}
+use Prim.Native.Nat.{ℕ, suc, _+_, _-_, _≤_, _<_}
 use native.Mathlib.Omega.{arith}
-use lib.Dec.{ltb, eqb}
-use lib.ListN.{length, take}
+use lib.Dec.{eqb}
+use lib.ListN.{length}
 use borrow.Author.Tests.{le-ltb}
 use Rattle.answers.specs.Theory.Sound.{clash}
 use Rattle.rules.specs.Sizes.{maxDocument}
@@ -23,7 +23,7 @@ use Rattle.text_segments.specs.Model.{state, FinishIs}
 use Rattle.text_segments.specs.Holding.{joined, Holds}
 use Rattle.text_segments.specs.Pieces.{remaining, pieceTo}
 use Rattle.text_segments.specs.Joining.{AdvanceAsked, Advances, AdvanceIs}
-use Rattle.text_paths.specs.Whole.{Stops, StopIs, SpaceIs, Closes, ClosedIs, ElementsAsked, joinedOf, HeldIn, ElementsIs}
+use Rattle.text_paths.specs.Whole.{Stops, StopIs, SpaceIs, Closes, ClosedIs, ElementsAsked, ElementsIs}
 use Rattle.text_elements.specs.Model.{finishC}
 use Rattle.text_elements.specs.declared.Path.{Path}
 use Rattle.text_segments.specs.declared.SegmentRead.{SegmentRead}

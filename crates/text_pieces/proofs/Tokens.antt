@@ -1,14 +1,14 @@
 -- One law for each answer of the functions that read a simple piece.
 use mathlib.Core.Path.{_≡_, refl, sym, _∙_, ap}
 use mathlib.Core.Bool.{Bool, true, false, not, _&&_, _||_}
-use mathlib.Core.List.{List, [], _∷_, _++_}
-use mathlib.Core.Option.{Option, none, some}
-use Prim.Native.Nat.{ℕ, _+_, _-_, _≤_, _<_}
+use mathlib.Core.List.{List}
+use mathlib.Core.Option.{none, some}
+use Prim.Native.Nat.{ℕ, _+_, _-_, _<_}
 use native.Mathlib.Omega.{arith}
-use lib.Dec.{leb, ltb, eqb}
+use lib.Dec.{leb, eqb}
 use lib.ListN.{length}
 use lib.Seq.{slice}
-use borrow.Author.Tests.{lt-leb, le-leb, leb-true, leb-false, eq-eqb, ne-eqb, eqb-true, not-true}
+use borrow.Author.Tests.{leb-true, eq-eqb, ne-eqb, eqb-true, not-true}
 use Rattle.answers.specs.Theory.Sound.{clash}
 use Rattle.rules.specs.Bytes.{Text, byteAt}
 use Rattle.rules.specs.Refusals.{placed, Scan, ok, refused, andThen}
@@ -25,14 +25,14 @@ use Rattle.text_chars.specs.declared.DocAt.{DocAt}
 use Rattle.text_chars.specs.declared.TextLen.{TextLen}
 use Rattle.text_chars.specs.declared.Cursor.{Cursor}
 use Rattle.text_scan.specs.Scan.{SeenIs, EndIs}
-use Rattle.text_numbers.specs.Contracts.{endOf, NumberMoved, NumberIs}
+use Rattle.text_numbers.specs.Contracts.{NumberIs}
 use Rattle.text_unquoted.specs.Contracts.{Says, WordIs}
 use Rattle.text_scan.specs.declared.Seen.{Seen}
 use Rattle.text_numbers.specs.declared.Number.{Number}
 use Rattle.text_unquoted.specs.declared.Word.{Word}
-use Rattle.text_escapes.specs.Contracts.{Decoded, quotedOf, TextLaid, TextFar}
+use Rattle.text_escapes.specs.Contracts.{Decoded, quotedOf}
 use Rattle.text_escapes.specs.declared.Quoted.{Quoted}
-use Rattle.text_pieces.specs.Contracts.{startsNumber, Leads, LeadIs, pieceOf, Moved, Spelt, Bare, ScanIs, LaidToken, LaidPiece, PieceIs, TextAsked, PieceAsked, quotedToken}
+use Rattle.text_pieces.specs.Contracts.{startsNumber, Leads, LeadIs, pieceOf, Bare, ScanIs, LaidToken, LaidPiece, PieceIs, TextAsked, PieceAsked, quotedToken}
 use Rattle.text_pieces.specs.declared.Piece.{Piece}
 use Rattle.text_pieces.specs.declared.Lead.{Lead}
 

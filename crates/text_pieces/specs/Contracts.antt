@@ -8,13 +8,12 @@ use lib.ListN.{length, drop}
 use lib.Seq.{slice}
 use Rattle.rules.specs.Sizes.{maxDocument}
 use Rattle.rules.specs.Bytes.{Text, byteAt}
-use Rattle.rules.specs.Refusals.{Refusal, numberOf, placeOf, Scan, ok, refused, andThen}
+use Rattle.rules.specs.Refusals.{numberOf, placeOf, Scan, ok, refused, andThen}
 use Rattle.rules.specs.Numbers.{isDigit}
 use Rattle.rules.specs.Strings.{quotedAt}
 use Rattle.rules.specs.Tree.{Scalar, null, boolean, number, string}
 use Rattle.rules.specs.Pieces.{Token, token, stopsUnquoted, startsSimple, scalarText}
 use Rattle.text_chars.specs.Cursor.{doc, cur}
-use Rattle.text_chars.specs.declared.TextLen.{TextLen}
 use Rattle.text_pieces.specs.declared.Piece.{Piece}
 use Rattle.text_pieces.specs.declared.Lead.{Lead}
 

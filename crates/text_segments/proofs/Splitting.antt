@@ -1,12 +1,12 @@
 -- One law for each answer of the functions that split unquoted text at its dots.
 use mathlib.Core.Path.{_≡_, refl, sym, _∙_, ap}
-use mathlib.Core.Bool.{Bool, true, false, cond}
+use mathlib.Core.Bool.{Bool, true, false}
 use mathlib.Core.List.{List, [], _∷_, _++_}
-use Prim.Native.Nat.{ℕ, zero, suc, _+_, _-_, _*_, _≤_, _<_}
+use Prim.Native.Nat.{ℕ, suc, _+_, _-_, _≤_, _<_}
 use native.Mathlib.Numerals.{add-one}
 use native.Mathlib.Omega.{arith}
 use lib.Dec.{eqb}
-use lib.ListN.{length, getD, set, take, drop, length-set, length-take, length-drop}
+use lib.ListN.{length, getD, set, take, length-set, length-drop}
 use lib.Seq.{slice, slice-empty, take-suc, length-take-le, drop-append-le}
 use Rattle.text_chars.specs.declared.DocAt.{DocAt}
 use Rattle.text_elements.specs.Model.{finishC}

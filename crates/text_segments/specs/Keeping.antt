@@ -1,9 +1,9 @@
 -- The model keeps the elements: a path so far with its buffers holds whole elements and one that is being read, and each step of the code
 -- does to these what the rules do.
 use mathlib.Core.Path.{_≡_, refl, sym, _∙_, ap}
-use mathlib.Core.Bool.{Bool, true, false, cond, _||_, or-false, or-true}
+use mathlib.Core.Bool.{Bool, true, false, cond, or-false, or-true}
 use mathlib.Core.List.{List, [], _∷_, _++_, append-assoc, append-nil}
-use Prim.Native.Nat.{ℕ, zero, suc, _+_, _*_, _≤_, _<_}
+use Prim.Native.Nat.{ℕ, suc, _+_, _*_, _≤_, _<_}
 use native.Mathlib.Numerals.{add-one}
 use native.Mathlib.Omega.{arith}
 use lib.Dec.{eqb}

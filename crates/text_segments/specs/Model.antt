@@ -1,13 +1,12 @@
 -- What the functions on paths do to the numbers and buffers that they are given, as plain functions.
 use mathlib.Core.Path.{_≡_}
-use Prim.Native.Nat.{ℕ, _+_, _*_, _≤_}
+use Prim.Native.Nat.{ℕ, _+_, _≤_}
 use mathlib.Core.Bool.{cond}
 use mathlib.Core.List.{List, [], _∷_}
 use lib.Dec.{eqb}
 use lib.ListN.{length, set}
 use lib.Seq.{slice}
 use Rattle.rules.specs.Sizes.{maxDocument}
-use Rattle.text_chars.specs.declared.TextAt.{TextAt}
 use Rattle.text_marks.specs.Marks.{marksRoom, markC}
 use Rattle.text_elements.specs.Model.{finishC}
 use Rattle.text_elements.specs.declared.Path.{Path}

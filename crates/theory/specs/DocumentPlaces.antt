@@ -14,7 +14,6 @@ use Rattle.rules.specs.Environment.{Environment, entriesOf, textOf}
 use Rattle.rules.specs.Tree.{Node, simple, array, object, unresolved, Elements, no-elements, element, Fields, no-fields, field}
 use Rattle.rules.specs.Tree.{Pieces, no-pieces, nodePiece, substituted, Root, fields, elements, firstPlace}
 use Rattle.rules.specs.Tree.{AllElements, AllFields, AllPieces, numberNode, numberElements, numberFields, numberPieces, numberRoot}
-use Rattle.rules.specs.Reading.{inside}
 use Rattle.rules.specs.Unresolved.{Openness, fieldOpenness, withField, inNode, inElements, inFields, inPieces, unresolvedIn}
 use Rattle.rules.specs.Documents.{Document, Setting, Input, valid, refused, limited, ofRoot, readDocument, withEnvironment, inputs}
 use Rattle.theory_text.specs.Choices.{by-test, by-option}

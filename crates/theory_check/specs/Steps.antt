@@ -1,13 +1,13 @@
 -- Checking a sheet entry by entry: what is known after some entries, one law for each way in which the next one, and then the table, turns
 -- out.
 use mathlib.Core.Path.{_≡_, refl, sym, _∙_, ap}
-use Prim.Native.Nat.{ℕ, zero, suc, _+_, _≤_, _<_}
+use Prim.Native.Nat.{ℕ, suc, _+_, _≤_, _<_}
 use mathlib.Core.List.{List, [], _∷_, _++_, append-assoc, append-nil}
 use mathlib.Core.Bool.{Bool, true, false}
 use mathlib.Core.Option.{Option, none, some}
 use native.Mathlib.Omega.{arith}
-use lib.ListN.{length, take, drop, getElem?, length-append, drop-of-length-le}
-use lib.Seq.{take-all, drop-append-seam}
+use lib.ListN.{length, drop, length-append, drop-of-length-le}
+use lib.Seq.{drop-append-seam}
 use Rattle.answers.specs.Ask.{Trail, lookup, Out, value, refused, missing, run}
 use Rattle.answers.specs.Resolve.{Laid}
 use Rattle.answers.specs.Theory.Sound.{clash}
@@ -18,7 +18,7 @@ use Rattle.rules.specs.Sheet.{pairAt, records, texts, entrySize, answerTextSize
 use Rattle.rules.specs.Checking.{answerFor, entriesFrom, isSheet, tableAccepted, accepted}
 use Rattle.rules.specs.Jobs.{orderOf}
 use Rattle.theory_text.specs.Choices.{getElem-length}
-use Rattle.theory.specs.Layout.{both-true, isSheet-inv, isSheet-intro, entry-some, length-trailRecords, length-trailTexts, length-records, length-texts}
+use Rattle.theory.specs.Layout.{both-true, isSheet-inv, isSheet-intro, entry-some, length-trailTexts, length-records, length-texts}
 use Rattle.theory.specs.Entries.{rootOf, answer-inv, answer-intro, entries-end, entries-next, entries-fuel, order-rule}
 use Rattle.theory.specs.Resolving.{ruled, past, rule-case}
 use Rattle.theory_check.specs.Begins.{records-begin, texts-begin, entries-upon, entries-stop, Begins, EntryAt, begins-none, begins-more, entry-at, entry-fits}

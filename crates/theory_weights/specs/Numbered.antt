@@ -1,7 +1,7 @@
 -- A numbered tree weighs its own nodes and the answers of its numbers, each once; so does each node that is a piece of an unresolved value.
-use mathlib.Core.Path.{_≡_, refl, sym, ap, subst, _∙_}
-use Prim.Native.Nat.{ℕ, zero, suc, _+_, _-_, _*_, _≤_, _<_}
-use mathlib.Core.List.{List, [], _∷_, _++_}
+use mathlib.Core.Path.{_≡_, ap}
+use Prim.Native.Nat.{ℕ, suc, _+_, _-_, _≤_}
+use mathlib.Core.List.{[]}
 use mathlib.Core.Option.{Option, none, some}
 use native.Mathlib.Omega.{arith}
 use lib.ListN.{length, getElem?}
@@ -12,7 +12,7 @@ use Rattle.rules.specs.Weights.{weightOfAnswer, weightOf, weightOfElements, wei
 use Rattle.rules.specs.Layers.{end}
 use Rattle.rules.specs.Unresolved.{Unresolved, Openness, fieldOpenness, withField, inNode, inElements, inFields, inPieces, unresolvedIn}
 use Rattle.rules.specs.Documents.{Document}
-use Rattle.theory.specs.Numbering.{Prepared, count-node, count-elements, count-fields, count-pieces}
+use Rattle.theory.specs.Numbering.{Prepared, count-elements, count-fields, count-pieces}
 use Rattle.theory.specs.Reach.{Each, each-append, each-at}
 use Rattle.theory_weights.specs.Sums.{sumBelow, sum-rises}
 

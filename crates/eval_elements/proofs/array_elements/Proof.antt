@@ -1,5 +1,5 @@
 -- laws: array-laws
-use Rattle.eval_elements.proofs.Returns.{array-laws, lending}
+use Rattle.eval_elements.proofs.Returns.{array-laws}
 use borrow.Author.Needs.{needs}
 use Rattle.eval_elements.proofs.array_elements.Statement.{statement}
 use Rattle.eval_elements.proofs.array_elements.Tie as tie

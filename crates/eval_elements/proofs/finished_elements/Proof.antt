@@ -1,5 +1,5 @@
 -- laws: finished-laws
-use Rattle.eval_elements.proofs.Returns.{finished-laws, lending}
+use Rattle.eval_elements.proofs.Returns.{finished-laws}
 use borrow.Author.Needs.{needs}
 use Rattle.eval_elements.proofs.finished_elements.Statement.{statement}
 use Rattle.eval_elements.proofs.finished_elements.Tie as tie

@@ -1,6 +1,5 @@
 -- laws: more-laws
 use Rattle.eval_extents.proofs.Extents.{more-laws}
-use borrow.Author.Needs.{needs}
 use Rattle.eval_extents.proofs.with_more.Statement.{statement}
 use Rattle.eval_extents.proofs.with_more.Tie as tie
 

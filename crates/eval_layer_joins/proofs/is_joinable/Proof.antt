@@ -1,6 +1,5 @@
 -- laws: ordering
 use Rattle.eval_layer_joins.proofs.Returns.{ordering}
-use borrow.Author.Needs.{needs}
 use Rattle.eval_layer_joins.proofs.is_joinable.Statement.{statement}
 use Rattle.eval_layer_joins.proofs.is_joinable.Tie as tie
 

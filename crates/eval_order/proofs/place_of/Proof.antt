@@ -3,9 +3,6 @@ use Rattle.eval_order.proofs.Beginning.{place-is}
 use borrow.Author.Needs.{needs}
 use Rattle.eval_order.proofs.place_of.Statement.{statement}
 use Rattle.eval_order.proofs.place_of.Tie as tie
-use Rattle.eval_order.proofs.place_of.Reads as reads
-use Rattle.eval_order.proofs.place_of.Lts as lts
-use Rattle.doc_items.proofs.number_at.Reads as number-at-reads
 
 pub place-of-spec : {M : Type 1} → statement M
 place-of-spec =

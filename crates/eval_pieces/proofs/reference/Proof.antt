@@ -1,5 +1,5 @@
 -- laws: references
-use Rattle.eval_pieces.proofs.Returns.{references, lending}
+use Rattle.eval_pieces.proofs.Returns.{references}
 use borrow.Author.Needs.{needs}
 use Rattle.eval_pieces.proofs.reference.Statement.{statement}
 use Rattle.eval_pieces.proofs.reference.Tie as tie

@@ -1,6 +1,5 @@
 -- laws: parts
 use Rattle.job_check.proofs.Parts.{parts}
-use borrow.Author.Needs.{needs}
 use Rattle.job_check.proofs.parts_fit.Statement.{statement}
 use Rattle.job_check.proofs.parts_fit.Tie as tie
 

@@ -1,6 +1,5 @@
 -- laws: judges
 use Rattle.read_values.proofs.Judging.{judges}
-use borrow.Author.Needs.{needs}
 use Rattle.read_values.proofs.judge.Statement.{statement}
 use Rattle.read_values.proofs.judge.Tie as tie
 

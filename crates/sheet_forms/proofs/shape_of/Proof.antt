@@ -1,6 +1,5 @@
 -- laws: shape-laws
 use Rattle.sheet_forms.proofs.Forms.{shape-laws}
-use borrow.Author.Needs.{needs}
 use Rattle.sheet_forms.proofs.shape_of.Statement.{statement}
 use Rattle.sheet_forms.proofs.shape_of.Tie as tie
 

@@ -1,6 +1,5 @@
 -- laws: within-laws
 use Rattle.sheet_sizes.proofs.Fits.{within-laws}
-use borrow.Author.Needs.{needs}
 use Rattle.sheet_sizes.proofs.within_size.Statement.{statement}
 use Rattle.sheet_sizes.proofs.within_size.Tie as tie
 

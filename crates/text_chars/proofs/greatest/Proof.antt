@@ -1,6 +1,5 @@
 -- laws: highests
 use Rattle.text_chars.proofs.Utf8.{highests}
-use borrow.Author.Needs.{needs}
 use Rattle.text_chars.proofs.greatest.Statement.{statement}
 use Rattle.text_chars.proofs.greatest.Tie as tie
 

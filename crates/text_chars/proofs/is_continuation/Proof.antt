@@ -1,6 +1,5 @@
 -- laws: continuations
 use Rattle.text_chars.proofs.Utf8.{continuations}
-use borrow.Author.Needs.{needs}
 use Rattle.text_chars.proofs.is_continuation.Statement.{statement}
 use Rattle.text_chars.proofs.is_continuation.Tie as tie
 

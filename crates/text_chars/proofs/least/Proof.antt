@@ -1,6 +1,5 @@
 -- laws: lowests
 use Rattle.text_chars.proofs.Utf8.{lowests}
-use borrow.Author.Needs.{needs}
 use Rattle.text_chars.proofs.least.Statement.{statement}
 use Rattle.text_chars.proofs.least.Tie as tie
 

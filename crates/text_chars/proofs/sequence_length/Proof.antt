@@ -1,6 +1,5 @@
 -- laws: promises
 use Rattle.text_chars.proofs.Utf8.{promises}
-use borrow.Author.Needs.{needs}
 use Rattle.text_chars.proofs.sequence_length.Statement.{statement}
 use Rattle.text_chars.proofs.sequence_length.Tie as tie
 

@@ -1,6 +1,5 @@
 -- laws: widths
 use Rattle.text_chars.proofs.Characters.{widths}
-use borrow.Author.Needs.{needs}
 use Rattle.text_chars.proofs.width.Statement.{statement}
 use Rattle.text_chars.proofs.width.Tie as tie
 

@@ -1,6 +1,5 @@
 -- laws: empties
 use Rattle.text_elements.proofs.Elements.{empties}
-use borrow.Author.Needs.{needs}
 use Rattle.text_elements.proofs.has_empty.Statement.{statement}
 use Rattle.text_elements.proofs.has_empty.Tie as tie
 
