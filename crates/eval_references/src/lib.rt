@@ -1,7 +1,6 @@
 // The layers of a substitution's path, on the stack: looking back, those before the field of its unresolved value, level by level; else
 // those of the whole root.
 // Computes: Unresolved (layersFor)
-use codes::limits;
 use doc_items::CAPACITY;
 use doc_items::number_at;
 use eval_back::field_around;
@@ -12,6 +11,7 @@ use eval_layers::Part;
 use eval_layers::push_members_named;
 use eval_of_root::of_root;
 use eval_paths::walk_path;
+use eval_routes::PATH_CAPACITY;
 use eval_routes::path_keys;
 use eval_routes::route_of;
 ghost use Prim.Native.Nat.{_<_, _≤_};
@@ -112,7 +112,7 @@ pub fn path_layers(
 {
     let route = route_of(table, i);
     let count = route.count;
-    let mut keys = [0u16; limits::PATH];
+    let mut keys = [0u16; PATH_CAPACITY];
     path_keys(table, texts, route, &mut keys);
     layers_for(table, records, work, base, &keys, count, item)
 }

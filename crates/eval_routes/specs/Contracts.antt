@@ -10,14 +10,18 @@ use Rattle.eval_keys.specs.Contracts.{FindIs}
 use Rattle.eval_routes.specs.Model.{beginsAt, textSpan, elementAt, elementLen}
 use Rattle.eval_routes.specs.declared.Route.{Route}
 
+-- How many elements a path may have here. It is apart from the limit on a path as it is written, which may be put behind another's.
+abbrev pub pathCapacity : ℕ
+pathCapacity = maxPath
+
 -- a path that a table can name, with few elements
 abbrev pub Close : Route → Type 0
-Close x = (x .at .0 < numberBound) × (x .len .0 < numberBound) × (x .count ≤ maxPath)
+Close x = (x .at .0 < numberBound) × (x .len .0 < numberBound) × (x .count ≤ pathCapacity)
 
 pub record RouteIs (T : List ℕ) (item : ℕ) (x : Route) : Type 0 where
   pub at : x .at .0 ≡ getD T (8 * item + 4) 0
   pub len : x .len .0 ≡ getD T (8 * item + 5) 0
-  pub count : getD T (8 * item + 7) 0 ≤ maxPath → x .count ≡ getD T (8 * item + 7) 0
+  pub count : getD T (8 * item + 7) 0 ≤ pathCapacity → x .count ≡ getD T (8 * item + 7) 0
   pub close : Close x
 
 pub record BeginsIs (X : List ℕ) (ends i r : ℕ) : Type 0 where

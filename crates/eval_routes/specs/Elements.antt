@@ -5,7 +5,6 @@ use mathlib.Core.List.{List, [], _∷_, _++_}
 use native.Mathlib.Omega.{arith}
 use lib.ListN.{length, getD, length-append}
 use borrow.Author.Tests.{lt-ltb, ne-eqb}
-use Rattle.rules.specs.Sizes.{maxPath}
 use Rattle.rules.specs.Bytes.{Text, byteAt}
 use Rattle.rules.specs.Tree.{Substitution}
 use Rattle.rules.specs.Sheet.{pairAt}
@@ -17,7 +16,7 @@ use Rattle.eval_keys.specs.Texts.{textOf}
 use Rattle.eval_keys.specs.Numbers.{Numbered, numberOf}
 use Rattle.eval_keys.specs.Documents.{text-is}
 use Rattle.eval_routes.specs.Model.{endsAt, beginsAt, textSpan, elementAt, elementLen}
-use Rattle.eval_routes.specs.Contracts.{RouteIs, PathKeysIs}
+use Rattle.eval_routes.specs.Contracts.{pathCapacity, RouteIs, PathKeysIs}
 use Rattle.eval_routes.specs.declared.Route.{Route}
 
 -- the numbers from i on are those of the texts
@@ -108,7 +107,7 @@ module _ (X : List ℕ) (hi : ℕ) (room : hi ≤ length X) where
         (omega (arith, R .count, R .path .upto)) (omega (arith, R .count))
 
     -- that stands in an item
-    pub item-read : (M : ℕ → ℕ → Type 0) (item : ℕ) {kind : ℕ} (y : Substitution) → RouteIs T item x → length (y .path) ≤ maxPath
+    pub item-read : (M : ℕ → ℕ → Type 0) (item : ℕ) {kind : ℕ} (y : Substitution) → RouteIs T item x → length (y .path) ≤ pathCapacity
         → ReferenceAt (numbers T) (letters 0 X) 0 hi M kind (numbers T (8 * item + 4)) (numbers T (8 * item + 5)) (numbers T (8 * item + 7)) y
         → KeysOf (numberOf X T n) K′ 0 (y .path)
     item-read M item {kind} y r l R =

@@ -10,10 +10,9 @@ use text_chars::TextAt;
 use text_chars::TextLen;
 ghost use Prim.Native.Nat.{_≤_, _<_};
 ghost use lib.ListN.{length};
-ghost use Rattle.rules.specs.Sizes.{maxPath};
 ghost use Rattle.doc_items.specs.Room.{capacity};
 ghost use Rattle.eval_routes.specs.Model.{nearEnds};
-ghost use Rattle.eval_routes.specs.Contracts.{BeginsIs, Close, RouteIs, SpanIs, PathKeyIs, PathKeysIs};
+ghost use Rattle.eval_routes.specs.Contracts.{pathCapacity, BeginsIs, Close, RouteIs, SpanIs, PathKeyIs, PathKeysIs};
 
 /// Where the path of a substitution stands in the texts: its elements one behind the other, so many bytes, and behind them their ends, two
 /// bytes each.
@@ -23,10 +22,13 @@ pub struct Route {
     pub count: usize,
 }
 
+/// How many elements a path may have here: as many as it may be written with. Apart from that limit, since one path may be put behind another.
+pub const PATH_CAPACITY: usize = limits::PATH;
+
 // Texts that a table can name are shorter.
 const LENGTHS: usize = 65536;
 
-/// The path of an item that is a substitution; no more elements than document 01 allows, whatever the table has.
+/// The path of an item that is a substitution; no more elements than there is room for, whatever the table has.
 pub fn route_of(table: &[u16], item: usize) -> Route
     requires { ⌜ item < capacity ⌝ }
     ensures { λ r. ⌜ RouteIs (now (table .entry)) item r ⌝ }
@@ -34,7 +36,7 @@ pub fn route_of(table: &[u16], item: usize) -> Route
     let at = number_at(table, WIDTH * item + COLUMN_TEXT);
     let len = number_at(table, WIDTH * item + COLUMN_TEXTLEN);
     let count = number_at(table, WIDTH * item + COLUMN_NUMBER);
-    if count <= limits::PATH {
+    if count <= PATH_CAPACITY {
         return Route {
             at: TextAt(at),
             len: TextLen(len),
@@ -44,13 +46,13 @@ pub fn route_of(table: &[u16], item: usize) -> Route
     Route {
         at: TextAt(at),
         len: TextLen(len),
-        count: limits::PATH,
+        count: PATH_CAPACITY,
     }
 }
 
 // Where an element begins: where the one before it ends.
 fn begins(texts: &[u8], ends: usize, i: usize) -> usize
-    requires { ⌜ (ends ≤ nearEnds) × (i ≤ maxPath) ⌝ }
+    requires { ⌜ (ends ≤ nearEnds) × (i ≤ pathCapacity) ⌝ }
     ensures { λ r. ⌜ BeginsIs (now (texts .entry)) ends i r ⌝ }
 {
     if i == 0 {
