@@ -1,5 +1,8 @@
 // The members of objects and arrays as what their layers come to, before their values are written.
 // Computes: Settled (membersIn, nodeIn; by the relations of eval_value_laws)
+use doc_items::COLUMN_SIZE;
+use doc_items::WIDTH;
+use doc_items::number_at;
 use eval_answers::Answered;
 use eval_layers::Taken;
 use eval_leaves::key_before;
@@ -11,7 +14,8 @@ use eval_value_laws::Field;
 use eval_writer::Out;
 use eval_writer::Source;
 ghost use Prim.Native.Nat.{_<_};
-ghost use Rattle.eval_value_laws.specs.Contracts.{Asked, FieldIs, ElementTakenIs};
+ghost use Rattle.doc_items.specs.Room.{capacity};
+ghost use Rattle.eval_value_laws.specs.Contracts.{Asked, FieldIs, ElementTakenIs, ElementsEndIs};
 
 /// What is met at p of members that go up to top. What a key's layers come to is decided before the key is written.
 pub fn field_at(
@@ -50,6 +54,14 @@ pub fn field_at(
             }
         }
     }
+}
+
+/// The place behind the elements of the array at an item.
+pub fn elements_end(table: &[u16], item: usize) -> usize
+    requires { ⌜ item < capacity ⌝ }
+    ensures { λ r. ⌜ ElementsEndIs (now (table .entry)) item r ⌝ }
+{
+    item + number_at(table, WIDTH * item + COLUMN_SIZE)
 }
 
 /// An element: an unresolved value's answer, or the element itself.

@@ -13,7 +13,7 @@ use Rattle.rules.specs.Layers.{Layer, written, settled, Counted, nothing, one, 
 use Rattle.rules.specs.Settled.{Given, pushAll, membersIn, mergedIn, nodeIn, elementsIn, layerIn, countedIn, valueIn}
 use Rattle.rules.specs.Weights.{weightOf, weightOfElements, weightOfFields}
 use Rattle.theory.specs.Depths.{layerHeight, heightIn, Shallow}
-use Rattle.doc_items.specs.Room.{capacity}
+use Rattle.doc_items.specs.Room.{capacity, numberBound}
 use Rattle.eval_writer.specs.Contracts.{Room}
 use Rattle.eval_writer.specs.declared.Out.{Out}
 use Rattle.eval_writer.specs.declared.Source.{Source}
@@ -289,3 +289,8 @@ takenOf (Answered.Layer c) = Taken.One c
 
 pub record ElementTakenIs (T : List ℕ) (c : ℕ) (r : Taken) : Type 0 where
   pub is : r ≡ takenOf (answeredAt T c)
+
+-- the place behind an array's elements
+pub record ElementsEndIs (T : List ℕ) (c r : ℕ) : Type 0 where
+  pub is : r ≡ c + getD T (8 * c + 1) 0
+  pub near : r ≤ capacity + numberBound

@@ -33,7 +33,7 @@ use Rattle.eval_worked.specs.declared.Worked.{Worked}
 use Rattle.eval_worked.specs.declared.Made.{Made}
 use Rattle.eval_value_laws.specs.Ground.{Names, memoryOf, ValueComes}
 use Rattle.eval_value_laws.specs.Elements.{ElementsShown, ElementStep, element-met}
-use Rattle.eval_value_laws.specs.Contracts.{Asked, Left, ElementGiven, ElementsGiven, TakenIn, TakenGivenBy, countedBy, TakenValueIs, OneMore, ElementsIs, takenOf, ElementTakenIs}
+use Rattle.eval_value_laws.specs.Contracts.{Asked, Left, ElementGiven, ElementsGiven, TakenIn, TakenGivenBy, countedBy, TakenValueIs, OneMore, ElementsIs, takenOf, ElementTakenIs, ElementsEndIs}
 use Rattle.eval_value_laws.specs.Given.{element-first, elements-rest, ElementAs, element-as}
 use Rattle.eval_value_laws.specs.Frames.{left-all, left-then, asked-again, more-within, one-more}
 
@@ -80,18 +80,22 @@ pub record Listing (T B : List ℕ) (src : Source) (top c : ℕ) (o : Out) (leve
       → (ns : Elements) × ElementsGiven (memoryOf T B src N) known top levels d at end ns
       × ElementsSoFar (N .key) (KeyNumber T (N .items)) (elementsIn known (valueIn known d) es) (elementsIn known (valueIn known d) ns) o n e b₀ b
 
+pub elements-end-at : {T : List ℕ} {c z : ℕ} → c < capacity → ReadIs T (8 * c + 1) z → ElementsEndIs T c (c + z)
+elements-end-at {T} {c} {z} l r = record { is = ap (λ (m : ℕ). c + m) (r .is); near = omega (arith, r .small) }
+
+pub ruleset ends = (elements-end-at)
+
 module _ {T B : List ℕ} {src : Source} {top c levels : ℕ} {o : Out} {w₀ b₀ : List ℕ} where
-  pub listing-start : {z : ℕ} → NotPast o → c < capacity → ReadIs T (8 * c + 1) z
-      → Listing T B src top c o levels (c + z) w₀ b₀ (c + 1) 0 (begun o) w₀ b₀
-  listing-start {z} q l r =
+  pub listing-start : {end : ℕ} → NotPast o → ElementsEndIs T c end → Listing T B src top c o levels end w₀ b₀ (c + 1) 0 (begun o) w₀ b₀
+  listing-start {end} q r =
       record {
         left = left-all;
         kept = refl;
         within = record { out = q; deep = omega arith };
         few = omega arith;
         counted = omega arith;
-        upto = ap (λ (m : ℕ). c + m) (r .is);
-        near = omega (arith, r .small);
+        upto = r .is;
+        near = r .near;
         is = λ N known d es g. (es, g, elements-begin q);
       }
 

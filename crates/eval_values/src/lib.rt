@@ -2,11 +2,9 @@
 // value's room, or where an answer is missing. What is undefined leaves the room as it was.
 // Computes: Settled (countedIn, membersIn, elementsIn; by the relations of eval_value_laws)
 use codes::kinds;
-use doc_items::COLUMN_SIZE;
-use doc_items::WIDTH;
-use doc_items::number_at;
 use eval_extents::Extent;
 use eval_fields::element_taken;
+use eval_fields::elements_end;
 use eval_fields::field_at;
 use eval_layers::Taken;
 use eval_leaves::behind_head;
@@ -124,7 +122,7 @@ pub fn elements_value(
     ensures { λ r. ⌜ ElementsIs (now (table .entry)) (now (bytes .entry)) src top item o levels (now (work .entry)) (now (work .exit)) r (now
         (room .entry)) (now (room .exit)) ⌝ }
 {
-    let end = item + number_at(table, WIDTH * item + COLUMN_SIZE);
+    let end = elements_end(table, item);
     let mut at = item + 1;
     let mut n = 0;
     let mut e = Extent { out: o, deep: 0 };

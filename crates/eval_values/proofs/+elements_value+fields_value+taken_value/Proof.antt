@@ -5,7 +5,7 @@ mod FieldsValue
 mod TakenValue
 use Rattle.eval_values.proofs.+elements_value+fields_value+taken_value.Lts-elements_value as elements-value-lts
 use Rattle.eval_values.proofs.elements_value.Reads as elements-value
-use Rattle.eval_values.proofs.+elements_value+fields_value+taken_value.Proof.ElementsValue.{elements-value-Inv-loop, elements-value-μ-loop, elements-value-mul-number-at, elements-value-add-number-at, elements-value-number-at-requires, elements-value-add-end, elements-value-add-at, elements-value-loop-holds, elements-value-element-at-requires, elements-value-enum-told, elements-value-same-length, elements-value-same-length-2, elements-value-returns, elements-value-enum-known-next, elements-value-loop-less, elements-value-loop-again, elements-value-enum-known-layer, elements-value-element-taken-requires, elements-value-taken-value-requires, elements-value-one-more-requires, elements-value-enum-known-b, elements-value-same-length-3, elements-value-same-length-4, elements-value-returns-2, elements-value-enum-known-count, elements-value-loop-less-2, elements-value-loop-again-2}
+use Rattle.eval_values.proofs.+elements_value+fields_value+taken_value.Proof.ElementsValue.{elements-value-Inv-loop, elements-value-μ-loop, elements-value-elements-end-requires, elements-value-add-at, elements-value-loop-holds, elements-value-element-at-requires, elements-value-enum-told, elements-value-same-length, elements-value-same-length-2, elements-value-returns, elements-value-enum-known-next, elements-value-loop-less, elements-value-loop-again, elements-value-enum-known-layer, elements-value-element-taken-requires, elements-value-taken-value-requires, elements-value-one-more-requires, elements-value-enum-known-b, elements-value-same-length-3, elements-value-same-length-4, elements-value-returns-2, elements-value-enum-known-count, elements-value-loop-less-2, elements-value-loop-again-2}
 use Rattle.eval_values.proofs.+elements_value+fields_value+taken_value.Lts-fields_value as fields-value-lts
 use Rattle.eval_values.proofs.fields_value.Reads as fields-value
 use Rattle.eval_values.proofs.+elements_value+fields_value+taken_value.Proof.FieldsValue.{fields-value-Inv-loop, fields-value-μ-loop, fields-value-loop-holds, fields-value-field-at-requires, fields-value-enum-told, fields-value-add-p, fields-value-loop-less, fields-value-loop-again, fields-value-enum-known-b, fields-value-same-length, fields-value-same-length-2, fields-value-returns, fields-value-enum-known-taken, fields-value-taken-value-requires, fields-value-one-more-requires, fields-value-enum-known-b-2, fields-value-same-length-3, fields-value-same-length-4, fields-value-returns-2, fields-value-enum-known-count, fields-value-add-p-2, fields-value-loop-less-2, fields-value-loop-again-2, fields-value-same-length-5, fields-value-same-length-6, fields-value-returns-3}
@@ -22,10 +22,7 @@ pub +elements-value+fields-value+taken-value-spec : {M : Type 1} → statement M
     (λ t. elements-value-lts.spec (elements-value-k t) (elements-value-at t) elements-value.Post
     elements-value-Inv-loop
     elements-value-μ-loop
-    (elements-value-mul-number-at t)
-    (elements-value-add-number-at t)
-    (elements-value-number-at-requires t)
-    (elements-value-add-end t)
+    (elements-value-elements-end-requires t)
     (elements-value-add-at t)
     (elements-value-loop-holds t)
     (elements-value-element-at-requires t)

@@ -11,7 +11,7 @@ use Rattle.eval_values.proofs.+elements_value+fields_value+taken_value.
 use Rattle.eval_values.proofs.taken_value.Reads as taken-value
 use Rattle.eval_values.proofs.taken_value.Kinds as taken-value-kinds
 use Rattle.eval_values.proofs.+elements_value+fields_value+taken_value.Lts-taken_value as taken-value-lts
-use Rattle.doc_items.proofs.number_at.Reads as number-at-reads
+use Rattle.eval_fields.proofs.elements_end.Reads as elements-end-reads
 use Rattle.eval_fields.proofs.element_taken.Reads as element-taken-reads
 use Rattle.eval_fields.proofs.field_at.Reads as field-at-reads
 use Rattle.eval_leaves.proofs.behind_head.Reads as behind-head-reads
@@ -68,7 +68,7 @@ taken-value-below t =
     and 4 taken-value-kinds.ps (falls 4 taken-value-kinds.ps _<_ μ-taken-value t) taken-value.Pre
 
 abbrev pub elements-value-k : ℕ → elements-value-lts.Claims
-elements-value-k t = (number-at-reads.Asked, number-at-reads.Learnt, element-at-reads.Asked, element-at-reads.Learnt, element-taken-reads.Asked, element-taken-reads.Learnt, taken-value-below t, taken-value.Post, one-more-reads.Asked, one-more-reads.Learnt)
+elements-value-k t = (elements-end-reads.Asked, elements-end-reads.Learnt, element-at-reads.Asked, element-at-reads.Learnt, element-taken-reads.Asked, element-taken-reads.Learnt, taken-value-below t, taken-value.Post, one-more-reads.Asked, one-more-reads.Learnt)
 
 abbrev pub fields-value-k : ℕ → fields-value-lts.Claims
 fields-value-k t = (field-at-reads.Asked, field-at-reads.Learnt, taken-value-below t, taken-value.Post, one-more-reads.Asked, one-more-reads.Learnt)

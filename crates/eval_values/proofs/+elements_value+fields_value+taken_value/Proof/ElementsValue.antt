@@ -18,17 +18,8 @@ elements-value-Inv-loop table bytes work₀ room₀ src top item levels end at�
 abbrev pub elements-value-μ-loop : elements-value-lts.MeasureT-loop
 elements-value-μ-loop table bytes work₀ room₀ src top item levels end at₀ n₀ e₀ work room at n e = end - at
 
-pub elements-value-mul-number-at : (t : ℕ) → elements-value-lts.Need-mul-number-at (elements-value-k t) (elements-value-at t) elements-value.Post elements-value-Inv-loop elements-value-μ-loop
-elements-value-mul-number-at t c = search needs
-
-pub elements-value-add-number-at : (t : ℕ) → elements-value-lts.Need-add-number-at (elements-value-k t) (elements-value-at t) elements-value.Post elements-value-Inv-loop elements-value-μ-loop
-elements-value-add-number-at t c = search needs
-
-pub elements-value-number-at-requires : (t : ℕ) → elements-value-lts.Need-number-at-requires (elements-value-k t) (elements-value-at t) elements-value.Post elements-value-Inv-loop elements-value-μ-loop
-elements-value-number-at-requires t c κs = search needs
-
-pub elements-value-add-end : (t : ℕ) → elements-value-lts.Need-add-end (elements-value-k t) (elements-value-at t) elements-value.Post elements-value-Inv-loop elements-value-μ-loop
-elements-value-add-end t c = search needs
+pub elements-value-elements-end-requires : (t : ℕ) → elements-value-lts.Need-elements-end-requires (elements-value-k t) (elements-value-at t) elements-value.Post elements-value-Inv-loop elements-value-μ-loop
+elements-value-elements-end-requires t c κs = search needs
 
 pub elements-value-add-at : (t : ℕ) → elements-value-lts.Need-add-at (elements-value-k t) (elements-value-at t) elements-value.Post elements-value-Inv-loop elements-value-μ-loop
 elements-value-add-at t c = search needs
