@@ -1,13 +1,14 @@
 //! Documents within all limits that cost a resolver most.
 
+use crate::families::hidden;
 use crate::resolve::Document;
 
 /// `count` members made of a number each, in one line.
-fn members(count: usize, member: impl Fn(usize) -> String) -> String {
+pub fn members(count: usize, member: impl Fn(usize) -> String) -> String {
     (1..=count).map(member).collect::<Vec<_>>().join(",")
 }
 
-fn numbered(prefix: &'static str, value: &'static str) -> impl Fn(usize) -> String {
+pub fn numbered(prefix: &'static str, value: &'static str) -> impl Fn(usize) -> String {
     move |i| format!("{prefix}{i}={value}")
 }
 
@@ -76,6 +77,9 @@ pub fn all() -> Vec<Document> {
                 + &"${q}".repeat(800)
                 + &(1..=100).map(|i| format!("${{u{i}}}")).collect::<String>(),
         ),
+        ("100 deep pieces of 13,000 nulls, then one that needs 20 others", hidden(100, 20, 13_000, 29)),
+        ("1,400 such pieces, then one that needs 249 others", hidden(1_400, 249, 13_000, 29)),
+        ("1,800 such pieces, and nothing is needed", hidden(1_800, 0, 13_000, 29)),
     ]
     .into_iter()
     .map(|(what, text)| Document { what: what.to_string(), text })

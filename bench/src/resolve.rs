@@ -1,5 +1,6 @@
 //! Resolve and check of whole documents.
 
+use crate::clock;
 use native::{jobs, plain_resolve, plain_resolve::Rooms};
 use std::{
     hint::black_box,
@@ -36,11 +37,11 @@ impl Buffers {
     }
 }
 
-/// Microseconds for one call, and for dropping what it gave.
+/// Microseconds of processor time for one call, and for dropping what it gave.
 fn time<T>(work: impl FnOnce() -> T) -> f64 {
-    let start = Instant::now();
+    let start = clock::now();
     drop(black_box(work()));
-    start.elapsed().as_nanos() as f64 / 1_000.0
+    clock::now() - start
 }
 
 fn median(mut times: Vec<f64>) -> f64 {
@@ -64,8 +65,40 @@ fn medians(document: &[u8], sheet: &plain_resolve::Sheet, buffers: &mut Buffers)
     times.map(median)
 }
 
+/// One call of each in microseconds; check's are 0 where the document is refused.
+pub struct Times {
+    pub resolve: f64,
+    pub plain_resolve: f64,
+    pub check: f64,
+    pub plain_check: f64,
+}
+
+/// The times of a document, refused or not, after its answers were compared.
+pub fn once(document: &[u8]) -> Times {
+    let mut buffers = Buffers::new();
+    let (mut answer, mut expected) = (None, None);
+    let resolve = time(|| answer = Some(buffers.resolve(document)));
+    let plain_resolve = time(|| expected = Some(plain_resolve::resolve(document, b"", BUDGET, Rooms::FULL)));
+    let (answer, expected) = (answer.unwrap(), expected.unwrap());
+    let said = expected.as_ref().map(jobs::Done::from).map_err(|refusal| *refusal);
+    assert_eq!(answer, said, "{}", String::from_utf8_lossy(document));
+    let Ok(sheet) = expected else { return Times { resolve, plain_resolve, check: 0.0, plain_check: 0.0 } };
+    compare(&buffers, &sheet, "a document of the search");
+    let (trail, table, text) = (&sheet.trail[..], &sheet.table[..], &sheet.text[..]);
+    let check = time(|| assert_eq!(jobs::check(document, b"", trail, table, text), Ok(())));
+    let plain_check = time(|| plain_resolve::check(document, b"", trail, table, text));
+    Times { resolve, plain_resolve, check, plain_check }
+}
+
+fn compare(buffers: &Buffers, sheet: &plain_resolve::Sheet, what: &str) {
+    let Buffers { trail, table, text } = buffers;
+    for (buffer, used) in [(trail, &sheet.trail), (table, &sheet.table), (text, &sheet.text)] {
+        assert!(buffer.starts_with(used), "{what}");
+    }
+}
+
 pub fn print(title: &str, documents: &[Document]) {
-    println!("\n{title}, times in microseconds (medians).\n");
+    println!("\n{title}, microseconds of processor time (medians).\n");
     println!("| Document | Bytes | Unresolved | Resolve | Plain Rust | Ratio | Check | Plain Rust | Ratio |");
     println!("|---|---|---|---|---|---|---|---|---|");
     let mut sums = [0.0; 4];
@@ -77,11 +110,7 @@ pub fn print(title: &str, documents: &[Document]) {
         };
         let mut buffers = Buffers::new();
         assert_eq!(buffers.resolve(document), Ok(jobs::Done::from(&sheet)), "{what}");
-        for (buffer, used) in
-            [(&buffers.trail, &sheet.trail), (&buffers.table, &sheet.table), (&buffers.text, &sheet.text)]
-        {
-            assert!(buffer.starts_with(used), "{what}");
-        }
+        compare(&buffers, &sheet, what);
         assert_eq!(jobs::check(document, b"", &sheet.trail, &sheet.table, &sheet.text), Ok(()), "{what}");
 
         let times = medians(document, &sheet, &mut buffers);
