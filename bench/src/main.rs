@@ -8,6 +8,7 @@ mod hostile;
 mod look_up;
 mod resolve;
 mod search;
+mod stack;
 
 use std::env;
 
@@ -30,6 +31,9 @@ fn main() {
             let (seconds, seed) = (number(arguments.next(), 360), number(arguments.next(), 1));
             native::plain_resolve::with_stack(move || search::print(seconds, seed));
         }
-        Some(other) => panic!("{other:?} is not known: nothing for the tables, or search [SECONDS [SEED]]"),
+        Some("stack") => match (number(arguments.next(), 60), number(arguments.next(), 1)) {
+            (seconds, seed) => stack::print(seconds, seed, arguments.next()),
+        },
+        Some(other) => panic!("{other:?} is not known: nothing for the tables, or search or stack [SECONDS [SEED]]"),
     }
 }
