@@ -125,11 +125,11 @@ enum dz_number {
     DZ_INCLUDE = 6,              /* include, which is not read yet */
     DZ_BAD_PATH = 7,             /* an empty path, or an empty name without quotes */
     DZ_OVER_LIMIT = 8,           /* more of something than the limit */
-    DZ_NOT_SET = 9,              /* nothing sets a required ${..} */
-    DZ_NEEDS_ITSELF = 10,        /* a value is needed to work out itself */
-    DZ_KINDS_MIXED = 11,         /* text, array and object in one value */
+    DZ_UNDEFINED = 9,            /* nothing sets a required ${..} */
+    DZ_CIRCULAR = 10,            /* a value is needed to work out itself */
+    DZ_MIXED_KINDS = 11,         /* text, array and object in one value */
     DZ_OVER_BUDGET = 12,         /* more values with ${..} than the budget */
-    DZ_VALUE_TOO_LARGE = 13,     /* a value over DZ_VALUE_MAX or DZ_NESTING_MAX */
+    DZ_TOO_LARGE = 13,           /* a value over DZ_VALUE_MAX or DZ_NESTING_MAX */
     DZ_NO_ROOM = 14,             /* trail, table or text does not fit its buffer */
     DZ_NOT_A_TABLE = 15,         /* the records are not one whole table */
     DZ_NOT_FOUND = 16,           /* the path names nothing */
@@ -166,11 +166,11 @@ static inline const char *dz_words(int number)
     case DZ_INCLUDE: return "include not read";
     case DZ_BAD_PATH: return "bad name";
     case DZ_OVER_LIMIT: return "over a limit";
-    case DZ_NOT_SET: return "name not set";
-    case DZ_NEEDS_ITSELF: return "value needs itself";
-    case DZ_KINDS_MIXED: return "kinds mixed";
+    case DZ_UNDEFINED: return "name not set";
+    case DZ_CIRCULAR: return "value needs itself";
+    case DZ_MIXED_KINDS: return "kinds mixed";
     case DZ_OVER_BUDGET: return "over the budget";
-    case DZ_VALUE_TOO_LARGE: return "value too large";
+    case DZ_TOO_LARGE: return "value too large";
     case DZ_NO_ROOM: return "sheet too large";
     case DZ_NOT_A_TABLE: return "damaged table";
     case DZ_NOT_FOUND: return "no such setting";
@@ -190,19 +190,20 @@ static inline const char *dz_words(int number)
  * A record is one byte of kind and then a body. Numbers of two bytes have the
  * high byte first.
  *
- *     kind             body
- *     1 null           -
- *     2 false          -
- *     3 true           -
- *     4 number         offset in the text (2 bytes), length (2 bytes)
- *     5 string         the same
- *     6 array          count of members (2 bytes), then the members: values
- *     7 object         count of members (2 bytes), then the members: each a key
- *                      and then a value
- *     8 key            offset in the text (2 bytes), length (2 bytes)
- *     9 entry          number of a value with ${..} (2 bytes), then what it came
- *                      to: a value
- *    10 undefined      number of a value with ${..} (2 bytes); it came to nothing
+ *     kind                 body
+ *      1 null              -
+ *      2 false             -
+ *      3 true              -
+ *      4 number            offset in the text (2 bytes), length (2 bytes)
+ *      5 string            the same
+ *      6 array             count of members (2 bytes), then the members: values
+ *      7 object            count of members (2 bytes), then the members: each a
+ *                          key and then a value
+ *      8 key               offset in the text (2 bytes), length (2 bytes)
+ *      9 entry             number of a value with ${..} (2 bytes), then what it
+ *                          came to: a value
+ *     10 undefined entry   number of a value with ${..} (2 bytes); it came to
+ *                          nothing
  *
  * A value is a record of kind 1 to 7 together with its members. A number's text
  * is the number as it was written, in JSON's form; a string's and a key's is
@@ -235,7 +236,7 @@ enum dz_kind {
     DZ_KIND_OBJECT = 7,
     DZ_KIND_KEY = 8,
     DZ_KIND_ENTRY = 9,
-    DZ_KIND_UNDEFINED = 10
+    DZ_KIND_UNDEFINED_ENTRY = 10
 };
 
 /*
@@ -277,7 +278,7 @@ static inline size_t dz_record_length(const uint8_t *record)
     case DZ_KIND_ARRAY:
     case DZ_KIND_OBJECT:
     case DZ_KIND_ENTRY:
-    case DZ_KIND_UNDEFINED: return 3;
+    case DZ_KIND_UNDEFINED_ENTRY: return 3;
     default: return 1;
     }
 }
@@ -353,18 +354,18 @@ static inline size_t dz_entry_number(const uint8_t *record)
  *                                   DZ_PATH_ELEMENTS_MAX or values with ${..}
  *                                   over DZ_BUDGET_MAX: the first byte of the
  *                                   first one too many.
- *     11 DZ_KINDS_MIXED             Text, array and object in one value without
+ *     11 DZ_MIXED_KINDS             Text, array and object in one value without
  *                                   ${..}: the first piece unlike the first.
  *
- *      9 DZ_NOT_SET                 Neither the document nor the environment sets
+ *      9 DZ_UNDEFINED               Neither the document nor the environment sets
  *                                   a required ${..}: its '$'.
- *     10 DZ_NEEDS_ITSELF            A value with ${..} is needed to work out
+ *     10 DZ_CIRCULAR                A value with ${..} is needed to work out
  *                                   itself: its first byte.
- *     11 DZ_KINDS_MIXED             As above, in a value with ${..}: the first
+ *     11 DZ_MIXED_KINDS             As above, in a value with ${..}: the first
  *                                   piece unlike the first defined one.
  *     12 DZ_OVER_BUDGET             One value with ${..} more than the budget is
  *                                   needed: its first byte.
- *     13 DZ_VALUE_TOO_LARGE         A value with ${..}, a part of one, or the
+ *     13 DZ_TOO_LARGE               A value with ${..}, a part of one, or the
  *                                   table is over DZ_VALUE_MAX bytes of records
  *                                   or of text, or nested over DZ_NESTING_MAX.
  *                                   Place 0.

@@ -67,7 +67,7 @@ static bool print_record(struct walk *walk)
 {
     const uint8_t *record = walk->records.bytes + walk->at;
     size_t left = walk->records.length - walk->at;
-    bool is_kind = record[0] >= DZ_KIND_NULL && record[0] <= DZ_KIND_UNDEFINED;
+    bool is_kind = record[0] >= DZ_KIND_NULL && record[0] <= DZ_KIND_UNDEFINED_ENTRY;
     size_t length = is_kind ? dz_record_length(record) : 1;
     if (!is_kind || length > left || walk->depth > DZ_NESTING_MAX) {
         printf("  %04zx ", walk->at);

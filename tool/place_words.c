@@ -227,7 +227,7 @@ static void plain_words(struct message *message, const struct job *job, int numb
     case DZ_OVER_LIMIT:
         say(&message->words, "one too many: at most 32 levels, 2,048 items, 256 values with `${..}`, 16 parts in a name");
         break;
-    case DZ_KINDS_MIXED:
+    case DZ_MIXED_KINDS:
         say(&message->words, "this is of another kind than what stands before it in the same value (text, list `[..]`, group `{..}`)");
         say(&message->help, "a comma or a new line may be missing before it");
         break;
@@ -246,9 +246,9 @@ void choose_words(struct message *message, const struct job *job, int number)
     case DZ_UNEXPECTED_END: end_words(message, job); break;
     case DZ_BAD_NUMBER_OR_STRING: string_words(message); break;
     case DZ_BAD_PATH: name_words(message); break;
-    case DZ_NOT_SET: unset_words(message); break;
-    case DZ_NEEDS_ITSELF: loop_words(message, job); break;
-    case DZ_VALUE_TOO_LARGE:
+    case DZ_UNDEFINED: unset_words(message); break;
+    case DZ_CIRCULAR: loop_words(message, job); break;
+    case DZ_TOO_LARGE:
         size_words(message, job, "a value is too large: at most 16,384 bytes of records, 16,384 of text, 32 levels");
         break;
     case DZ_NO_ROOM:

@@ -13,7 +13,7 @@ struct numbering {
 static const uint8_t *next_entry(const uint8_t *entry)
 {
     const uint8_t *answer = entry + dz_record_length(entry);
-    return dz_kind(entry) == DZ_KIND_UNDEFINED ? answer : end_of(answer);
+    return dz_kind(entry) == DZ_KIND_UNDEFINED_ENTRY ? answer : end_of(answer);
 }
 
 static void sort(size_t *numbers, size_t count)
@@ -80,7 +80,7 @@ static void print_trail(const struct job *job, const struct numbering *numbering
         struct shown place = {.length = 0};
         say_entry_place(&place, job, numbering, dz_entry_number(entry));
         printf("%-*zu  %-*s  ", digits, dz_entry_number(entry), widest, place.text);
-        if (dz_kind(entry) == DZ_KIND_UNDEFINED)
+        if (dz_kind(entry) == DZ_KIND_UNDEFINED_ENTRY)
             fputs("undefined", stdout);
         else
             put_json(&printer, entry + dz_record_length(entry));

@@ -58,7 +58,7 @@ static void input_words(struct message *message, const struct job *job, const st
 
 static bool has_place(int number)
 {
-    return number != DZ_BAD_INPUT && number != DZ_VALUE_TOO_LARGE && number != DZ_NO_ROOM && number != DZ_NOT_ACCEPTED;
+    return number != DZ_BAD_INPUT && number != DZ_TOO_LARGE && number != DZ_NO_ROOM && number != DZ_NOT_ACCEPTED;
 }
 
 static void refuse_document(const char *kind, const struct job *job, uint64_t answer)

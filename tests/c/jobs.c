@@ -138,12 +138,12 @@ static void cases(void)
     refused("[1,,2]", DZ_BUDGET_MAX, DZ_BYTE_NOT_ALLOWED, 3);
     BECOMES("foo:{a:{c:1}},foo:${foo.a},foo:{a:2}", 1, "\11\0\0\7\0\1\10\0\0\0\1\4\0\1\0\1",
             "\7\0\1\10\0\2\0\3\7\0\2\10\0\5\0\1\4\0\6\0\1\10\0\7\0\1\4\0\10\0\1", "c1fooa2c1");
-    refused("a=[${a}]", DZ_BUDGET_MAX, DZ_NEEDS_ITSELF, 3);
-    refused("a=${a}", DZ_BUDGET_MAX, DZ_NOT_SET, 2);
+    refused("a=[${a}]", DZ_BUDGET_MAX, DZ_CIRCULAR, 3);
+    refused("a=${a}", DZ_BUDGET_MAX, DZ_UNDEFINED, 2);
     BECOMES("a=${?a}foo", 1, "\11\0\0\5\0\0\0\3", "\7\0\1\10\0\3\0\1\5\0\4\0\3", "fooafoo");
-    refused("bar=${foo},foo=${bar}", DZ_BUDGET_MAX, DZ_NEEDS_ITSELF, 4);
+    refused("bar=${foo},foo=${bar}", DZ_BUDGET_MAX, DZ_CIRCULAR, 4);
     BECOMES("a=${x},a=1", 0, "", "\7\0\1\10\0\0\0\1\4\0\1\0\1", "a1");
-    refused("a=[1] 5", DZ_BUDGET_MAX, DZ_KINDS_MIXED, 6);
+    refused("a=[1] 5", DZ_BUDGET_MAX, DZ_MIXED_KINDS, 6);
     refused("a=1", DZ_BUDGET_MAX + 1, DZ_BAD_INPUT, 0);
     becomes("a=${x}", "x=mm", 5, 1, "\11\0\0\5\0\0\0\2", 8, "\7\0\1\10\0\2\0\1\5\0\3\0\2", 13, "mmamm");
 }
