@@ -9,39 +9,99 @@
 #include "dzintrulo.h"
 #include "dzintrulo_sheet.h"
 
+#include <errno.h>
 #include <stdio.h>
+#include <stdlib.h>
 #include <string.h>
 
 /* One byte more than is allowed, so that the library can refuse what is longer. */
-static uint8_t document[DZ_DOCUMENT_MAX + 1], environment[65536], bytes[DZ_SHEET_FILE_MAX + 1];
+static uint8_t document[DZ_DOCUMENT_MAX + 1], environment[65536], sheet_file[DZ_SHEET_FILE_MAX + 1];
 static size_t document_length;
+
+/* A file that cannot be read whole, or a display that cannot be written to, stops the panel. */
+static void give_up(const char *name, const char *what)
+{
+    fprintf(stderr, "panel: %s: %s\n", name, what);
+    exit(2);
+}
 
 static size_t load(const char *name, uint8_t *buffer, size_t room)
 {
     FILE *file = fopen(name, "rb");
     if (file == NULL)
-        return 0;
+        give_up(name, strerror(errno));
     size_t length = fread(buffer, 1, room, file);
-    fclose(file);
+    if (ferror(file) || fclose(file) != 0)
+        give_up(name, strerror(errno));
     return length;
 }
 
-/* Turns lines into what the library takes, in place: a zero byte ends each, and comments and empty lines go. */
-static size_t end_names(uint8_t *lines, size_t length)
+static bool is_name_byte(uint8_t byte)
 {
-    size_t used = 0, start = 0;
-    for (size_t i = 0; i <= length; i++) {
-        if (i < length && lines[i] != '\n')
-            continue;
-        size_t end = i > start && lines[i - 1] == '\r' ? i - 1 : i;
+    return (byte >= 'a' && byte <= 'z') || (byte >= 'A' && byte <= 'Z') || (byte >= '0' && byte <= '9') || byte == '_' ||
+           byte == '.' || byte == '-';
+}
+
+/* How many bytes the name of a line NAME=TEXT has, with its quotes if it has some; 0 if there is none. */
+static size_t name_length(const uint8_t *line, size_t length)
+{
+    bool quoted = length > 0 && line[0] == '"';
+    size_t at = quoted ? 1 : 0;
+    while (at < length && (quoted ? line[at] != '"' && line[at] != '=' : is_name_byte(line[at])))
+        at++;
+    if (quoted)
+        at = at > 1 && at < length && line[at] == '"' ? at + 1 : 0;
+    return at < length && line[at] == '=' ? at : 0;
+}
+
+/* Writes a line as an entry of the environment: the name without its quotes, '=', the text, a zero byte. 0 if it is none. */
+static size_t put_entry(uint8_t *to, const uint8_t *line, size_t length)
+{
+    size_t name = name_length(line, length), quotes = name > 0 && line[0] == '"' ? 1 : 0;
+    if (name == 0 || memchr(line, 0, length) != NULL)
+        return 0;
+    memmove(to, line + quotes, name - 2 * quotes);
+    memmove(to + name - 2 * quotes, line + name, length - name);
+    to[length - 2 * quotes] = 0;
+    return length - 2 * quotes + 1;
+}
+
+static void give_up_line(const char *name, unsigned line)
+{
+    char what[96];
+    snprintf(what, sizeof what, "line %u: NAME=TEXT is needed, NAME of letters, digits, _ . - or in quotes", line);
+    give_up(name, what);
+}
+
+/*
+ * Turns the lines of a file into what the library takes, in place. Comments and empty lines go, and a byte order mark at the
+ * start; any other line is an entry, or the panel stops: `unit = mm` would be another name, and be lost in silence.
+ */
+static size_t put_entries(const char *name, uint8_t *lines, size_t length)
+{
+    size_t used = 0, start = length >= 3 && memcmp(lines, "\xef\xbb\xbf", 3) == 0 ? 3 : 0;
+    for (unsigned line = 1; start < length; line++) {
+        const uint8_t *newline = memchr(lines + start, '\n', length - start);
+        size_t next = newline == NULL ? length : (size_t)(newline - lines);
+        size_t end = next > start && lines[next - 1] == '\r' ? next - 1 : next;
         if (end > start && lines[start] != '#') {
-            memmove(lines + used, lines + start, end - start);
-            used += end - start;
-            lines[used++] = 0;
+            size_t entry = put_entry(lines + used, lines + start, end - start);
+            if (entry == 0)
+                give_up_line(name, line);
+            used += entry;
         }
-        start = i + 1;
+        start = next + 1;
     }
     return used;
+}
+
+/* A file of names longer than its buffer is not cut: the names behind would be lost. */
+static size_t load_environment(const char *name)
+{
+    size_t length = load(name, environment, sizeof environment);
+    if (length == sizeof environment)
+        give_up(name, "too long");
+    return put_entries(name, environment, length);
 }
 
 /* Shows a refusal, with line and column where the place is in the file. */
@@ -81,6 +141,14 @@ static int show(const struct dz_sheet *sheet, const char *path)
     return 0;
 }
 
+/* A display that takes nothing has shown nothing. */
+static int finish(int status)
+{
+    if (ferror(stdout) || fclose(stdout) != 0)
+        give_up("display", strerror(errno));
+    return status;
+}
+
 int main(int argc, char **argv)
 {
     struct dz_sheet sheet;
@@ -89,10 +157,10 @@ int main(int argc, char **argv)
         return 2;
     }
     document_length = load(argv[1], document, sizeof document);
-    size_t environment_length = end_names(environment, load(argv[2], environment, sizeof environment - 1));
-    if (!dz_sheet_open(bytes, load(argv[3], bytes, sizeof bytes), &sheet))
-        return stop(DZ_NOT_ACCEPTED, 0, 0);
+    size_t environment_length = load_environment(argv[2]);
+    if (!dz_sheet_open(sheet_file, load(argv[3], sheet_file, sizeof sheet_file), &sheet))
+        return finish(stop(DZ_NOT_ACCEPTED, 0, 0));
     uint64_t answer = dz_check(document, document_length, environment, environment_length, sheet.trail, sheet.trail_length,
                                sheet.table, sheet.table_length, sheet.text, sheet.text_length);
-    return dz_check_accepted(answer) ? show(&sheet, argv[4]) : stop_check(answer);
+    return finish(dz_check_accepted(answer) ? show(&sheet, argv[4]) : stop_check(answer));
 }
