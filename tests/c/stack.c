@@ -1,7 +1,8 @@
 /*
- * Measures how much stack the jobs take, on documents at the limits, by threads
- * whose stacks are painted. What they take goes to stderr; exit status 1 if it is
- * more than the header says.
+ * Measures how much stack the jobs take, on documents at the limits and on the worst
+ * one found (stack.conf), by threads whose stacks are painted. What they take goes to
+ * stderr; exit status 1 if less than a margin is left of what the header says, since
+ * a worse document may be found.
  */
 #include "lend.h"
 
@@ -11,6 +12,8 @@
 
 #define STACK (4u << 20)
 #define PAINT 0xa5
+#define MARGIN (DZ_STACK_MAX / 64)
+#define LOOK_UP_MARGIN (DZ_LOOK_UP_STACK_MAX / 4)
 
 static uint8_t stack_memory[STACK] __attribute__((aligned(4096)));
 static uint8_t document[DZ_DOCUMENT_MAX], trail[DZ_PART_MAX], table[DZ_PART_MAX], text[DZ_PART_MAX];
@@ -160,6 +163,15 @@ static void many_items(void)
     add("]");
 }
 
+/* The worst document found. */
+static void worst(void)
+{
+    FILE *file = fopen("tests/c/stack.conf", "rb");
+    must(file != NULL, "tests/c/stack.conf");
+    document_len = fread(document, 1, sizeof document, file);
+    must(!ferror(file) && fclose(file) == 0 && document_len > 0, "tests/c/stack.conf");
+}
+
 static void most(size_t *so_far, void *(*job)(void *), size_t idle)
 {
     size_t taken = stack_of(job) - idle;
@@ -170,7 +182,8 @@ int main(void)
 {
     static const char *const names[] = {"resolve", "check", "look_up", "length"};
     static void *(*const jobs[])(void *) = {do_resolve, do_check, do_look_up, do_length};
-    static void (*const documents[])(void) = {nested_arrays, nested_objects, chain, needs_inside, merged_pieces, looking_back, many_items};
+    static void (*const documents[])(void) = {nested_arrays, nested_objects, chain,      needs_inside,
+                                              merged_pieces, looking_back,   many_items, worst};
     size_t taken[4] = {0, 0, 0, 0}, idle = stack_of(do_nothing);
     bool fits = true;
     for (size_t i = 0; i < sizeof documents / sizeof documents[0]; i++) {
@@ -182,8 +195,8 @@ int main(void)
     }
     for (int job = 0; job < 4; job++) {
         fprintf(stderr, "stack: dz_%s takes %zu bytes\n", names[job], taken[job]);
-        fits = fits && taken[job] <= (job < 2 ? DZ_STACK_MAX : DZ_LOOK_UP_STACK_MAX);
+        fits = fits && taken[job] <= (job < 2 ? DZ_STACK_MAX - MARGIN : DZ_LOOK_UP_STACK_MAX - LOOK_UP_MARGIN);
     }
-    puts(fits ? "no job takes more than the header says" : "a job takes more than the header says");
+    puts(fits ? "each job leaves a margin of what the header says" : "a job takes more than the header says, or nearly so");
     return fits ? 0 : 1;
 }
