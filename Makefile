@@ -43,14 +43,22 @@ $(OUT)/panel: panel/panel.c $(HEADERS) $(ARCHIVE)
 	@mkdir -p $(OUT)
 	$(CC) $(FLAGS) $(CFLAGS) $(LDFLAGS) -o $@ panel/panel.c $(ARCHIVE) $(LDLIBS)
 
+# For languages that cannot include the headers: their functions as symbols, and all of the archive.
+$(OUT)/libdzintrulo.so.0: lib/dzintrulo.c $(HEADERS) $(ARCHIVE)
+	@mkdir -p $(OUT)
+	$(CC) $(FLAGS) $(CFLAGS) -fPIC -shared -Wl,-soname,libdzintrulo.so.0 $(LDFLAGS) -o $@ lib/dzintrulo.c \
+		-Wl,--whole-archive $(ARCHIVE) -Wl,--no-whole-archive $(LDLIBS)
+
 check:
 	./test
 
-install: all
+install: all $(OUT)/libdzintrulo.so.0
 	mkdir -p $(DESTDIR)$(PREFIX)/bin $(DESTDIR)$(PREFIX)/include $(DESTDIR)$(PREFIX)/lib/pkgconfig $(DESTDIR)$(PREFIX)/share/man/man1
 	cp $(OUT)/dzintrulo $(DESTDIR)$(PREFIX)/bin/dzintrulo
 	cp $(HEADERS) $(DESTDIR)$(PREFIX)/include
 	cp $(ARCHIVE) $(DESTDIR)$(PREFIX)/lib/libdzintrulo.a
+	cp $(OUT)/libdzintrulo.so.0 $(DESTDIR)$(PREFIX)/lib/libdzintrulo.so.0
+	ln -sf libdzintrulo.so.0 $(DESTDIR)$(PREFIX)/lib/libdzintrulo.so
 	version=$$(sed -n 's/^#define DZINTRULO_VERSION "\(.*\)"/\1/p' include/dzintrulo.h); \
 	sed -e 's|@PREFIX@|$(PREFIX)|' -e "s|@VERSION@|$$version|" tool/dzintrulo.pc.in >$(DESTDIR)$(PREFIX)/lib/pkgconfig/dzintrulo.pc
 	cp tool/dzintrulo.1 $(DESTDIR)$(PREFIX)/share/man/man1/dzintrulo.1
@@ -58,6 +66,7 @@ install: all
 uninstall:
 	rm -f $(DESTDIR)$(PREFIX)/bin/dzintrulo $(DESTDIR)$(PREFIX)/include/dzintrulo.h \
 		$(DESTDIR)$(PREFIX)/include/dzintrulo_sheet.h $(DESTDIR)$(PREFIX)/lib/libdzintrulo.a \
+		$(DESTDIR)$(PREFIX)/lib/libdzintrulo.so $(DESTDIR)$(PREFIX)/lib/libdzintrulo.so.0 \
 		$(DESTDIR)$(PREFIX)/lib/pkgconfig/dzintrulo.pc $(DESTDIR)$(PREFIX)/share/man/man1/dzintrulo.1
 
 # What is proved stays: only the C programs go.

@@ -13,40 +13,37 @@
  *                                text, sizeof text);
  *     if (dz_number(done) != DZ_OK)
  *         stop(dz_words(dz_number(done)), dz_place(done));
- *     size_t trail_len = dz_resolve_trail_length(done);
- *     size_t table_len = dz_resolve_table_length(done);
- *     size_t text_len = dz_resolve_text_length(done);
+ *     struct dz_sheet sheet = dz_resolve_sheet(done, trail, table, text);
  *
  *     uint64_t answer = dz_check(document, document_len, NULL, 0,
- *                                trail, trail_len, table, table_len,
- *                                text, text_len);
+ *                                sheet.trail, sheet.trail_length,
+ *                                sheet.table, sheet.table_length,
+ *                                sheet.text, sheet.text_length);
  *     if (!dz_check_accepted(answer))
  *         stop(dz_words(dz_number(answer)), dz_place(answer));
  *
  * A sheet is three parts of bytes: a trail, which lists what each value with a
  * ${..} in it came to; a table, which holds the configuration as compact
  * records; and a text, which holds the bytes of their keys, strings and numbers.
- * dz_look_up() finds the value that a path names in table and text:
+ * Settings are read from table and text by their path. A length with its unit, as
+ * "2.6 mm", comes in micrometres, or is refused:
  *
- *     const char *path = "plate.min";
- *     uint64_t answer = dz_look_up(table, table_len, text, text_len,
- *                                  (const uint8_t *)path, strlen(path));
- *     if (dz_look_up_found(answer)) {
- *         const uint8_t *value = table + dz_look_up_offset(answer);
- *         size_t value_len = dz_look_up_length(answer);
- *         ...
- *     } else if (dz_look_up_number(answer) == DZ_NOT_FOUND) {
- *         ...
- *     }
+ *     uint64_t min = dz_find_length(&sheet, "plate.min");
+ *     if (dz_number(min) != DZ_OK)
+ *         stop(dz_words(dz_number(min)), 0);
+ *     show(dz_length_micrometres(min));
  *
- * A value that is a length with its unit, as "2.6 mm", is read by dz_length():
+ * Any other value is a pointer to its record, of which the functions below give
+ * the kind, the text, the number and the members:
  *
- *     uint64_t length = dz_length(value, value_len, text, text_len);
- *     if (dz_length_number(length) == DZ_OK)
- *         show(dz_length_micrometres(length));
+ *     const uint8_t *name = dz_find(&sheet, "name");
+ *     if (name != NULL && dz_kind(name) == DZ_KIND_STRING)
+ *         printf("%.*s\n", (int)dz_text_length(name), dz_text(&sheet, name));
  *
- * Any other value is read by the functions on records below, as dz_kind() and
- * dz_text_offset(). What is not in this header is no interface.
+ * dz_resolve(), dz_check(), dz_look_up(), dz_length() and dz_version_number() are the
+ * archive's, and are proved. All others are short C code here, inline; they are
+ * symbols of the shared library libdzintrulo.so too, for languages that cannot
+ * include this file. What is not in this header is no interface.
  *
  *
  * What holds for every function here
@@ -66,8 +63,8 @@
  * Stack. Scratch memory is on the stack. dz_resolve() and dz_check() take at
  *     most DZ_STACK_MAX bytes of it, dz_look_up() and dz_length() at most
  *     DZ_LOOK_UP_STACK_MAX, and a thread's stack must have them free: threads of
- *     musl have 131,072 bytes unless more is asked for. This is measured at the
- *     limits, and not proved.
+ *     musl have 131,072 bytes unless more is asked for. This is measured, and not
+ *     proved: the worst document found takes 505,688 bytes.
  * Needs. The archive needs memcpy and memset of the C library, and nothing
  *     else. It has no unwind tables: nothing can be thrown through it.
  */
@@ -85,11 +82,28 @@ extern "C" {
 #define DZ_CAST(type, value) ((type)(value))
 #endif
 
+/* How the functions here are defined. lib/dzintrulo.c defines it as nothing, which makes them symbols. */
+#ifndef DZ_INLINE
+#define DZ_INLINE static inline
+#endif
+
 /*
  * Version of this interface: as text, and as 10,000 * major + 100 * minor + patch
  */
 #define DZINTRULO_VERSION "0.1.0"
 #define DZINTRULO_VERSION_NUMBER 100
+
+/*
+ * The archive's own version, as DZINTRULO_VERSION_NUMBER. They differ if this header
+ * and the archive, or the shared library, do not belong together.
+ */
+uint32_t dz_version_number(void);
+
+/* The archive's version as text; "another version" if it is not this header's. */
+DZ_INLINE const char *dz_version(void)
+{
+    return dz_version_number() == DZINTRULO_VERSION_NUMBER ? DZINTRULO_VERSION : "another version";
+}
 
 /*
  * Limits
@@ -105,8 +119,8 @@ extern "C" {
 #define DZ_PATH_ELEMENTS_MAX 16u  /* names in a path */
 #define DZ_NESTING_MAX 32u        /* arrays and objects in one another; the root counts */
 #define DZ_MICROMETRES_MAX 1000000u /* a length, in micrometres */
-#define DZ_STACK_MAX 524288u      /* bytes of stack that a job takes at most */
-#define DZ_LOOK_UP_STACK_MAX 8192u /* of them, dz_look_up() and dz_length() */
+#define DZ_STACK_MAX 524288u      /* bytes of stack that dz_resolve() and dz_check() take at most */
+#define DZ_LOOK_UP_STACK_MAX 8192u /* the same of dz_look_up() and dz_length() */
 
 /*
  * Refusal numbers
@@ -142,19 +156,19 @@ enum dz_number {
 };
 
 /* The refusal number of any job's answer; DZ_OK if it is no refusal. */
-static inline int dz_number(uint64_t answer)
+DZ_INLINE int dz_number(uint64_t answer)
 {
     return DZ_CAST(int, answer & 0x3f);
 }
 
 /* The place of any job's refusal; 0 if the answer is none. */
-static inline size_t dz_place(uint64_t answer)
+DZ_INLINE size_t dz_place(uint64_t answer)
 {
     return dz_number(answer) == DZ_OK ? 0 : DZ_CAST(size_t, answer >> 6 & 0xffff);
 }
 
 /* A refusal number in words, at most 24 characters: a line of a small display. */
-static inline const char *dz_words(int number)
+DZ_INLINE const char *dz_words(int number)
 {
     switch (number) {
     case DZ_OK: return "ok";
@@ -240,36 +254,36 @@ enum dz_kind {
 };
 
 /*
- * Reading a record. It must be whole, as all are in a value that dz_look_up()
- * found and behind one: these functions test nothing.
+ * Reading a record. It must be one of a whole table, as dz_find() and dz_root()
+ * give it, or of a trail that dz_check() accepted: these functions test nothing.
  */
 
 /* The kind of the record. */
-static inline int dz_kind(const uint8_t *record)
+DZ_INLINE int dz_kind(const uint8_t *record)
 {
     return record[0];
 }
 
 /* Of a number, string or key: where its text begins in the text part. */
-static inline size_t dz_text_offset(const uint8_t *record)
+DZ_INLINE size_t dz_text_offset(const uint8_t *record)
 {
     return DZ_CAST(size_t, record[1] * 256 + record[2]);
 }
 
 /* Of a number, string or key: how many bytes its text has. */
-static inline size_t dz_text_length(const uint8_t *record)
+DZ_INLINE size_t dz_text_length(const uint8_t *record)
 {
     return DZ_CAST(size_t, record[3] * 256 + record[4]);
 }
 
 /* Of an array or object: how many members it has. */
-static inline size_t dz_member_count(const uint8_t *record)
+DZ_INLINE size_t dz_member_count(const uint8_t *record)
 {
     return DZ_CAST(size_t, record[1] * 256 + record[2]);
 }
 
 /* How many bytes the record has by itself, without members: 1, 3 or 5. */
-static inline size_t dz_record_length(const uint8_t *record)
+DZ_INLINE size_t dz_record_length(const uint8_t *record)
 {
     switch (dz_kind(record)) {
     case DZ_KIND_NUMBER:
@@ -284,9 +298,68 @@ static inline size_t dz_record_length(const uint8_t *record)
 }
 
 /* Of an entry of a trail: the number of the value with ${..} that it answers. */
-static inline size_t dz_entry_number(const uint8_t *record)
+DZ_INLINE size_t dz_entry_number(const uint8_t *record)
 {
     return DZ_CAST(size_t, record[1] * 256 + record[2]);
+}
+
+/* Whether the record has a text: it is a number, a string or a key. */
+DZ_INLINE bool dz_has_text(const uint8_t *record)
+{
+    return dz_kind(record) == DZ_KIND_NUMBER || dz_kind(record) == DZ_KIND_STRING || dz_kind(record) == DZ_KIND_KEY;
+}
+
+/*
+ * Members, one after another. A member of an array is a value; one of an object is
+ * a key, and then its value. What has no members has none to pass:
+ *
+ *     const uint8_t *end = dz_next(object);
+ *     for (const uint8_t *m = dz_first(object); m != end; m = dz_next(m))
+ *         use(dz_key(m), dz_value(m));
+ *
+ * The entries of a trail are passed likewise, from sheet.trail to sheet.trail +
+ * sheet.trail_length.
+ */
+
+/* The first member of a value; dz_next() of the value if it has none. */
+DZ_INLINE const uint8_t *dz_first(const uint8_t *value)
+{
+    return value + dz_record_length(value);
+}
+
+/* What stands behind a value, behind a key with its value, or behind an entry. */
+DZ_INLINE const uint8_t *dz_next(const uint8_t *record)
+{
+    size_t left = 1; /* records that are still to be passed */
+    while (left > 0) {
+        switch (dz_kind(record)) {
+        case DZ_KIND_ARRAY:
+        case DZ_KIND_OBJECT: left += dz_member_count(record); break;
+        case DZ_KIND_KEY:
+        case DZ_KIND_ENTRY: left++; break;
+        default: break;
+        }
+        record += dz_record_length(record);
+        left--;
+    }
+    return record;
+}
+
+/* The key of a member; NULL in an array. */
+DZ_INLINE const uint8_t *dz_key(const uint8_t *member)
+{
+    return dz_kind(member) == DZ_KIND_KEY ? member : NULL;
+}
+
+/* The value of a member or of an entry; NULL if the entry came to nothing. */
+DZ_INLINE const uint8_t *dz_value(const uint8_t *member)
+{
+    switch (dz_kind(member)) {
+    case DZ_KIND_KEY:
+    case DZ_KIND_ENTRY: return member + dz_record_length(member);
+    case DZ_KIND_UNDEFINED_ENTRY: return NULL;
+    default: return member;
+    }
 }
 
 /*
@@ -382,25 +455,25 @@ uint64_t dz_resolve(const uint8_t *document, size_t document_len,
                     uint8_t *text, size_t text_len);
 
 /* How many values with ${..} were begun; 0 for a refusal. */
-static inline size_t dz_resolve_count(uint64_t answer)
+DZ_INLINE size_t dz_resolve_count(uint64_t answer)
 {
     return dz_number(answer) == DZ_OK ? DZ_CAST(size_t, answer >> 6 & 0x1ff) : 0;
 }
 
 /* How many bytes of the trail are used; 0 for a refusal. */
-static inline size_t dz_resolve_trail_length(uint64_t answer)
+DZ_INLINE size_t dz_resolve_trail_length(uint64_t answer)
 {
     return dz_number(answer) == DZ_OK ? DZ_CAST(size_t, answer >> 15 & 0xffff) : 0;
 }
 
 /* How many bytes of the table are used; 0 for a refusal, and only then. */
-static inline size_t dz_resolve_table_length(uint64_t answer)
+DZ_INLINE size_t dz_resolve_table_length(uint64_t answer)
 {
     return dz_number(answer) == DZ_OK ? DZ_CAST(size_t, answer >> 31 & 0xffff) : 0;
 }
 
 /* How many bytes of the text are used; 0 for a refusal. */
-static inline size_t dz_resolve_text_length(uint64_t answer)
+DZ_INLINE size_t dz_resolve_text_length(uint64_t answer)
 {
     return dz_number(answer) == DZ_OK ? DZ_CAST(size_t, answer >> 47 & 0xffff) : 0;
 }
@@ -434,7 +507,7 @@ uint64_t dz_check(const uint8_t *document, size_t document_len,
                   const uint8_t *text, size_t text_len);
 
 /* Whether an answer of dz_check() is yes. */
-static inline bool dz_check_accepted(uint64_t answer)
+DZ_INLINE bool dz_check_accepted(uint64_t answer)
 {
     return dz_number(answer) == DZ_OK;
 }
@@ -516,31 +589,31 @@ uint64_t dz_look_up(const uint8_t *table, size_t table_len,
                     const uint8_t *path, size_t path_len);
 
 /* The refusal number of an answer of dz_look_up(), or DZ_OK if it was found. */
-static inline int dz_look_up_number(uint64_t answer)
+DZ_INLINE int dz_look_up_number(uint64_t answer)
 {
     return dz_number(answer);
 }
 
 /* Whether an answer of dz_look_up() is a value found. */
-static inline bool dz_look_up_found(uint64_t answer)
+DZ_INLINE bool dz_look_up_found(uint64_t answer)
 {
     return dz_look_up_number(answer) == DZ_OK;
 }
 
 /* The offset of the value found in the table; 0 for a refusal. */
-static inline size_t dz_look_up_offset(uint64_t answer)
+DZ_INLINE size_t dz_look_up_offset(uint64_t answer)
 {
     return dz_look_up_found(answer) ? DZ_CAST(size_t, answer >> 6 & 0xffff) : 0;
 }
 
 /* The length of the value found, in bytes; 0 for a refusal, and only then. */
-static inline size_t dz_look_up_length(uint64_t answer)
+DZ_INLINE size_t dz_look_up_length(uint64_t answer)
 {
     return dz_look_up_found(answer) ? DZ_CAST(size_t, answer >> 22 & 0xffff) : 0;
 }
 
 /* The place of a refusal; 0 for a value found. */
-static inline size_t dz_look_up_place(uint64_t answer)
+DZ_INLINE size_t dz_look_up_place(uint64_t answer)
 {
     return dz_place(answer);
 }
@@ -590,15 +663,136 @@ uint64_t dz_length(const uint8_t *table, size_t table_len,
                    const uint8_t *text, size_t text_len);
 
 /* The refusal number of an answer of dz_length(), or DZ_OK if it is a length. */
-static inline int dz_length_number(uint64_t answer)
+DZ_INLINE int dz_length_number(uint64_t answer)
 {
     return dz_number(answer);
 }
 
 /* The micrometres of a length; 0 for a refusal. */
-static inline uint32_t dz_length_micrometres(uint64_t answer)
+DZ_INLINE uint32_t dz_length_micrometres(uint64_t answer)
 {
-    return DZ_CAST(uint32_t, answer >> 6 & 0xfffff);
+    return dz_number(answer) == DZ_OK ? DZ_CAST(uint32_t, answer >> 6 & 0xfffff) : 0;
+}
+
+/*
+ * A sheet as one thing: where its parts lie. The bytes stay the caller's, and stay
+ * as they are while the sheet and values of it are in use. dz_resolve_sheet() gives
+ * one for what dz_resolve() has written, dz_sheet_open() in dzintrulo_sheet.h one for
+ * a sheet file.
+ */
+struct dz_sheet {
+    const uint8_t *trail, *table, *text;
+    size_t trail_length, table_length, text_length;
+};
+
+/* The sheet that dz_resolve() has written to these buffers; its parts are empty if it was refused. */
+DZ_INLINE struct dz_sheet dz_resolve_sheet(uint64_t answer, const uint8_t *trail, const uint8_t *table, const uint8_t *text)
+{
+    struct dz_sheet sheet;
+    sheet.trail = trail;
+    sheet.table = table;
+    sheet.text = text;
+    sheet.trail_length = dz_resolve_trail_length(answer);
+    sheet.table_length = dz_resolve_table_length(answer);
+    sheet.text_length = dz_resolve_text_length(answer);
+    return sheet;
+}
+
+/* dz_look_up() in a sheet. The path text ends with a zero byte. */
+DZ_INLINE uint64_t dz_sheet_look_up(const struct dz_sheet *sheet, const char *path)
+{
+    size_t length = 0;
+    while (path[length] != '\0')
+        length++;
+    return dz_look_up(sheet->table, sheet->table_length, sheet->text, sheet->text_length,
+                      DZ_CAST(const uint8_t *, DZ_CAST(const void *, path)), length);
+}
+
+/*
+ * The value that a path names in a sheet; NULL if dz_look_up() refuses, which
+ * dz_sheet_look_up() says why. The table may come from anywhere: one that is not
+ * whole is refused.
+ */
+DZ_INLINE const uint8_t *dz_find(const struct dz_sheet *sheet, const char *path)
+{
+    uint64_t answer = dz_sheet_look_up(sheet, path);
+    return dz_look_up_found(answer) ? sheet->table + dz_look_up_offset(answer) : NULL;
+}
+
+/*
+ * The length that a path names in a sheet: dz_length() of the value, or the
+ * refusal of dz_look_up() if there is none.
+ */
+DZ_INLINE uint64_t dz_find_length(const struct dz_sheet *sheet, const char *path)
+{
+    uint64_t answer = dz_sheet_look_up(sheet, path);
+    if (!dz_look_up_found(answer))
+        return answer;
+    return dz_length(sheet->table + dz_look_up_offset(answer), dz_look_up_length(answer), sheet->text, sheet->text_length);
+}
+
+/*
+ * The value that the whole table is; NULL if the table is not whole or a part of the
+ * sheet too long (15 or 1). An empty path is 7, and is read only if neither holds.
+ */
+DZ_INLINE const uint8_t *dz_root(const struct dz_sheet *sheet)
+{
+    return dz_number(dz_sheet_look_up(sheet, "")) == DZ_BAD_PATH ? sheet->table : NULL;
+}
+
+/* The text of a number, string or key: dz_text_length() bytes, and no zero byte behind them. */
+DZ_INLINE const char *dz_text(const struct dz_sheet *sheet, const uint8_t *record)
+{
+    if (dz_text_length(record) == 0)
+        return "";
+    return DZ_CAST(const char *, DZ_CAST(const void *, sheet->text + dz_text_offset(record)));
+}
+
+/* Whether a record is a number, string or key with this text. NULL is none. */
+DZ_INLINE bool dz_text_equals(const struct dz_sheet *sheet, const uint8_t *record, const char *string)
+{
+    if (record == NULL || !dz_has_text(record))
+        return false;
+    const char *text = dz_text(sheet, record);
+    size_t length = dz_text_length(record), same = 0;
+    while (same < length && string[same] != '\0' && string[same] == text[same])
+        same++;
+    return same == length && string[same] == '\0';
+}
+
+/* What dz_integer() answers. */
+enum dz_integer {
+    DZ_INTEGER_OK = 0,
+    DZ_INTEGER_NONE = 1,    /* no number, or one with a fraction or an exponent */
+    DZ_INTEGER_OVERFLOW = 2 /* a whole number that int64_t cannot hold */
+};
+
+/*
+ * The whole number of a number record, as it is written: an optional '-' and
+ * digits. 2.0 and 1e3 are none, and neither is the string "2". NULL is none.
+ * Nothing is written to *integer but with DZ_INTEGER_OK.
+ */
+DZ_INLINE int dz_integer(const struct dz_sheet *sheet, const uint8_t *record, int64_t *integer)
+{
+    if (record == NULL || dz_kind(record) != DZ_KIND_NUMBER)
+        return DZ_INTEGER_NONE;
+    const char *text = dz_text(sheet, record);
+    size_t length = dz_text_length(record), first = length > 0 && text[0] == '-' ? 1 : 0;
+    if (first == length || (text[first] == '0' && length > first + 1))
+        return DZ_INTEGER_NONE;
+    int64_t below = 0; /* the number with a minus sign: there is one more of these */
+    bool fits = true;
+    for (size_t i = first; i < length; i++) {
+        if (text[i] < '0' || text[i] > '9')
+            return DZ_INTEGER_NONE;
+        int digit = text[i] - '0';
+        fits = fits && below >= (INT64_MIN + digit) / 10;
+        below = fits ? below * 10 - digit : 0;
+    }
+    if (!fits || (first == 0 && below == INT64_MIN))
+        return DZ_INTEGER_OVERFLOW;
+    *integer = first == 0 ? -below : below;
+    return DZ_INTEGER_OK;
 }
 
 #undef DZ_CAST

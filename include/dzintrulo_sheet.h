@@ -18,28 +18,24 @@
 #ifndef DZINTRULO_SHEET_H
 #define DZINTRULO_SHEET_H
 
-#include <stdbool.h>
-#include <stddef.h>
-#include <stdint.h>
+#include "dzintrulo.h"
+
+#ifdef __cplusplus
+extern "C" {
+#endif
 
 #define DZ_SHEET_HEAD 12u
 #define DZ_SHEET_EDITION 1
 #define DZ_SHEET_FILE_MAX (DZ_SHEET_HEAD + 3u * 65535u) /* bytes that a head can speak of */
 
-/* The parts of a sheet file, inside its bytes. */
-struct dz_sheet {
-    const uint8_t *trail, *table, *text;
-    size_t trail_length, table_length, text_length;
-};
-
 /* Whether bytes begin as a sheet file does: tells it from a document. */
-static inline bool dz_sheet_begins(const uint8_t *bytes, size_t length)
+DZ_INLINE bool dz_sheet_begins(const uint8_t *bytes, size_t length)
 {
     return length >= 4 && bytes[0] == 0x8d && bytes[1] == 0x44 && bytes[2] == 0x5a && bytes[3] == 0x53;
 }
 
-/* Finds the parts. False if these bytes are no whole sheet file of this edition. */
-static inline bool dz_sheet_open(const uint8_t *bytes, size_t length, struct dz_sheet *sheet)
+/* Finds the parts inside the bytes. False if these are no whole sheet file of this edition. */
+DZ_INLINE bool dz_sheet_open(const uint8_t *bytes, size_t length, struct dz_sheet *sheet)
 {
     if (length < DZ_SHEET_HEAD || !dz_sheet_begins(bytes, length) || bytes[4] != DZ_SHEET_EDITION || bytes[5] != 0)
         return false;
@@ -55,7 +51,7 @@ static inline bool dz_sheet_open(const uint8_t *bytes, size_t length, struct dz_
 }
 
 /* Writes the DZ_SHEET_HEAD bytes that stand before parts of these lengths, each at most DZ_PART_MAX. */
-static inline void dz_sheet_head(uint8_t *head, size_t trail_length, size_t table_length, size_t text_length)
+DZ_INLINE void dz_sheet_head(uint8_t *head, size_t trail_length, size_t table_length, size_t text_length)
 {
     const size_t bytes[DZ_SHEET_HEAD] = {
         0x8d, 0x44, 0x5a, 0x53, DZ_SHEET_EDITION, 0,
@@ -64,5 +60,9 @@ static inline void dz_sheet_head(uint8_t *head, size_t trail_length, size_t tabl
     for (size_t i = 0; i < DZ_SHEET_HEAD; i++)
         head[i] = bytes[i] & 0xff;
 }
+
+#ifdef __cplusplus
+}
+#endif
 
 #endif

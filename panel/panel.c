@@ -3,8 +3,8 @@
  *
  *     panel FILE ENVFILE SHEET PATH
  *
- * ENVFILE has lines NAME=TEXT, as the tool's --env-file; /dev/null has none. The panel shows what dz_length() reads and
- * nothing else: a number without its unit is never shown. All memory is static.
+ * ENVFILE has lines NAME=TEXT, as the tool's --env-file; /dev/null has none. The panel shows what dz_find_length() reads
+ * and nothing else: a number without its unit is never shown. All memory is static.
  */
 #include "dzintrulo.h"
 #include "dzintrulo_sheet.h"
@@ -129,13 +129,9 @@ static int stop_check(uint64_t answer)
 
 static int show(const struct dz_sheet *sheet, const char *path)
 {
-    uint64_t found = dz_look_up(sheet->table, sheet->table_length, sheet->text, sheet->text_length,
-                                (const uint8_t *)path, strlen(path));
-    if (!dz_look_up_found(found))
-        return stop(dz_number(found), 0, 0);
-    uint64_t length = dz_length(sheet->table + dz_look_up_offset(found), dz_look_up_length(found), sheet->text, sheet->text_length);
-    if (dz_length_number(length) != DZ_OK)
-        return stop(dz_length_number(length), 0, 0);
+    uint64_t length = dz_find_length(sheet, path);
+    if (dz_number(length) != DZ_OK)
+        return stop(dz_number(length), 0, 0);
     unsigned micrometres = (unsigned)dz_length_micrometres(length);
     printf("%s %u.%03u mm\n", path, micrometres / 1000, micrometres % 1000);
     return 0;
@@ -156,6 +152,8 @@ int main(int argc, char **argv)
         fputs("usage: panel FILE ENVFILE SHEET PATH\n", stderr);
         return 2;
     }
+    if (dz_version_number() != DZINTRULO_VERSION_NUMBER)
+        give_up("libdzintrulo", dz_version());
     document_length = load(argv[1], document, sizeof document);
     size_t environment_length = load_environment(argv[2]);
     if (!dz_sheet_open(sheet_file, load(argv[3], sheet_file, sizeof sheet_file), &sheet))

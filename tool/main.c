@@ -78,6 +78,10 @@ int main(int argc, char **argv)
 {
     static char buffer[1 << 21]; /* holds what any file comes to: a full disk is noticed when all is done */
     setvbuf(stdout, buffer, _IOFBF, sizeof buffer);
+    if (dz_version_number() != DZINTRULO_VERSION_NUMBER) {
+        trouble("libdzintrulo.a", dz_version());
+        return TROUBLE;
+    }
     enum status status = choose(argc, argv);
     return close_output() ? (int)status : TROUBLE;
 }

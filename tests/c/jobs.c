@@ -222,6 +222,8 @@ int main(void)
     uint64_t nothing = dz_check(NULL, 0, NULL, 0, NULL, 0, NULL, 0, NULL, 0);
     printf("a sheet of nothing: %d %s\n", dz_number(nothing), dz_words(dz_number(nothing)));
     printf("header %s, %d\n", DZINTRULO_VERSION, DZINTRULO_VERSION_NUMBER);
+    hold(dz_version_number() == DZINTRULO_VERSION_NUMBER, "the archive is of another version than the header");
+    printf("archive %s, %u\n", dz_version(), (unsigned)dz_version_number());
     if (mismatches != 0)
         fprintf(stderr, "%d of the answers are wrong\n", mismatches);
     return mismatches == 0 ? 0 : 1;

@@ -1,4 +1,4 @@
-// The jobs on lent byte slices, exported to C.
+// The jobs on lent byte slices, exported to C, and the version of the interface to them.
 // Computes: Jobs (resolveJob, buffersOf, checkJob, lookUpJob, lengthJob)
 ghost use mathlib.Core.Path.{_≡_};
 ghost use Rattle.rules.specs.Jobs.{checkJob, lookUpJob, lengthJob};
@@ -53,4 +53,12 @@ pub extern "C" fn dz_length(table: &[u8], text: &[u8]) -> u64
     ensures { λ r. ⌜ r ≡ packedLength (lengthJob (now (table .entry)) (now (text .entry))) ⌝ }
 {
     job_length::pack_length(job_length::length(table, text))
+}
+
+/// The version of this interface, 0.1.0, as the header has it: 10,000 * major + 100 * minor + patch.
+#[no_mangle]
+pub extern "C" fn dz_version_number() -> u32
+    ensures { λ r. ⌜ r ≡ 100 ⌝ }
+{
+    100
 }
