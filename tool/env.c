@@ -12,7 +12,7 @@ static void add_bytes(struct environment *environment, struct span bytes)
     environment->length += bytes.length;
 }
 
-/* Whether an entry from `start` on has this name, which ends with its `=`. */
+/* Whether an entry from `start` on has this name. */
 static bool is_given(const struct environment *environment, size_t start, struct span name)
 {
     struct span lent = lent_environment(environment);
@@ -21,82 +21,169 @@ static bool is_given(const struct environment *environment, size_t start, struct
         const uint8_t *end = memchr(entry, 0, lent.length - start);
         if (end == NULL)
             return false;
-        if ((size_t)(end - entry) >= name.length && memcmp(entry, name.bytes, name.length) == 0)
+        if ((size_t)(end - entry) > name.length && entry[name.length] == '=' && memcmp(entry, name.bytes, name.length) == 0)
             return true;
         start = (size_t)(end - lent.bytes) + 1;
     }
     return false;
 }
 
-/* Adds NAME=TEXT. Of the entries from `start` on, none may have the name. Says what is wrong, or NULL. */
-static const char *add_entry(struct environment *environment, size_t start, struct span entry)
+/* ---- Names. Whatever is read as another name than was meant would be lost in silence, so a name is plain or in quotes. */
+
+static bool is_plain(struct span name)
 {
-    const uint8_t *equals = memchr(entry.bytes, '=', entry.length);
-    if (equals == NULL)
-        return "NAME=TEXT is needed";
-    if (equals == entry.bytes)
-        return "the name is empty";
-    if (memchr(entry.bytes, 0, entry.length) != NULL)
-        return "a zero byte cannot be given";
-    if (is_given(environment, start, (struct span){entry.bytes, (size_t)(equals - entry.bytes) + 1}))
-        return "the name is given twice";
-    add_bytes(environment, entry);
+    static const char plain[] = "ABCDEFGHIJKLMNOPQRSTUVWXYZabcdefghijklmnopqrstuvwxyz0123456789_.-";
+    for (size_t i = 0; i < name.length; i++)
+        if (name.bytes[i] == 0 || strchr(plain, name.bytes[i]) == NULL)
+            return false;
+    return true;
+}
+
+/* Whether this is a name; says why if not. */
+static bool is_name(struct span name, bool quoted, struct shown *wrong)
+{
+    if (name.length == 0)
+        say(wrong, "the name is empty");
+    else if (quoted && memchr(name.bytes, '=', name.length) != NULL)
+        say(wrong, "a name cannot have `=`");
+    else if (!quoted && !is_plain(name)) {
+        bool has_space = memchr(name.bytes, ' ', name.length) != NULL || memchr(name.bytes, '\t', name.length) != NULL;
+        say(wrong, "`");
+        say_bytes(wrong, name, 60);
+        say(wrong, "` %s", has_space ? "has a space: write NAME=TEXT without, or the name in quotes"
+                                     : "is no name: letters, digits, _, . and -, or in quotes");
+    } else
+        return true;
+    return false;
+}
+
+/* Takes the name that a text begins with; `rest` is then what stands behind it. */
+static bool take_name(struct span text, struct span *name, struct span *rest, struct shown *wrong)
+{
+    bool quoted = text.length > 0 && text.bytes[0] == '"';
+    size_t start = quoted ? 1 : 0;
+    const uint8_t *end = text.length == start ? NULL : memchr(text.bytes + start, quoted ? '"' : '=', text.length - start);
+    if (quoted && end == NULL) {
+        say(wrong, "the quotes of the name are not closed");
+        return false;
+    }
+    *name = (struct span){text.bytes + start, end == NULL ? text.length - start : (size_t)(end - text.bytes) - start};
+    size_t taken = name->length + (quoted ? 2 : 0);
+    *rest = (struct span){text.bytes + taken, text.length - taken};
+    if (rest->length == 0 || rest->bytes[0] == '=')
+        return is_name(*name, quoted, wrong);
+    say(wrong, "behind a name in quotes comes `=`");
+    return false;
+}
+
+/* ---- Entries. */
+
+/* Adds a name and its text. Of the entries from `start` on, none may have the name. */
+static bool add_entry(struct environment *environment, size_t start, struct span name, struct span text, struct shown *wrong)
+{
+    if (is_given(environment, start, name)) {
+        say(wrong, "the name is given twice");
+        return false;
+    }
+    add_bytes(environment, name);
+    add_bytes(environment, (struct span){(const uint8_t *)"=", 1});
+    add_bytes(environment, text);
     add_bytes(environment, (struct span){(const uint8_t *)"", 1});
     environment->names++;
-    return NULL;
+    return true;
+}
+
+/* Adds NAME=TEXT, or "NAME"=TEXT. */
+static bool add_text(struct environment *environment, size_t start, struct span line, struct shown *wrong)
+{
+    struct span name, rest;
+    if (memchr(line.bytes, 0, line.length) != NULL)
+        say(wrong, "a zero byte cannot be given");
+    else if (memchr(line.bytes, '=', line.length) == NULL)
+        say(wrong, "NAME=TEXT is needed");
+    else if (take_name(line, &name, &rest, wrong) && rest.length > 0)
+        return add_entry(environment, start, name, (struct span){rest.bytes + 1, rest.length - 1}, wrong);
+    return false;
 }
 
 /* -e NAME: its text in the process environment. */
-static bool add_own(struct environment *environment, const char *name)
+static bool add_own(struct environment *environment, struct span word, struct shown *wrong)
 {
-    static char entry[sizeof environment->bytes];
-    const char *text = name[0] == '\0' ? NULL : getenv(name);
-    if (text == NULL)
-        return trouble(name, "not set in the environment (-e NAME=TEXT gives a text)");
-    int length = snprintf(entry, sizeof entry, "%s=%s", name, text);
-    if (length < 0 || (size_t)length >= sizeof entry)
-        return trouble(name, "its text is too long");
-    const char *wrong = add_entry(environment, 0, (struct span){(const uint8_t *)entry, (size_t)length});
-    return wrong == NULL || trouble(name, wrong);
+    static char own[sizeof environment->bytes];
+    struct span name, rest;
+    if (!take_name(word, &name, &rest, wrong))
+        return false;
+    int length = snprintf(own, sizeof own, "%.*s", (int)name.length, (const char *)name.bytes);
+    const char *text = length < 0 || (size_t)length >= sizeof own ? NULL : getenv(own);
+    if (text != NULL)
+        return add_entry(environment, 0, name, (struct span){(const uint8_t *)text, strlen(text)}, wrong);
+    say(wrong, "not set in the environment (-e NAME=TEXT gives a text)");
+    return false;
 }
 
-static bool add_given(struct environment *environment, const char *word)
+static bool add_given(struct environment *environment, const char *given)
 {
-    if (strchr(word, '=') == NULL)
-        return add_own(environment, word);
-    const char *wrong = add_entry(environment, 0, (struct span){(const uint8_t *)word, strlen(word)});
-    return wrong == NULL || trouble(word, wrong);
+    struct shown wrong = {.length = 0};
+    struct span word = {(const uint8_t *)given, strlen(given)};
+    bool is_whole = strchr(given, '=') != NULL;
+    bool added = is_whole ? add_text(environment, 0, word, &wrong) : add_own(environment, word, &wrong);
+    return added || trouble(given, wrong.text);
+}
+
+/* ---- Files. */
+
+static bool is_blank(struct span line)
+{
+    for (size_t i = 0; i < line.length; i++)
+        if (line.bytes[i] != ' ' && line.bytes[i] != '\t')
+            return false;
+    return true;
 }
 
 /* A line of a file, without its newline. */
-static const char *add_line(struct environment *environment, size_t start, struct span line)
+static bool add_line(struct environment *environment, size_t start, struct span line, struct shown *wrong)
 {
     if (line.length > 0 && line.bytes[line.length - 1] == '\r')
         line.length--;
-    if (line.length == 0 || line.bytes[0] == '#')
-        return NULL;
-    return add_entry(environment, start, line);
+    if (is_blank(line) || line.bytes[0] == '#')
+        return true;
+    if (memchr(line.bytes, '\r', line.length) == NULL)
+        return add_text(environment, start, line, wrong);
+    say(wrong, "a carriage return stands inside it: lines end with LF or CR LF");
+    return false;
+}
+
+static bool add_lines(struct environment *environment, const char *file, struct span lines)
+{
+    size_t start = environment->length;
+    for (size_t at = 0, number = 1; at < lines.length; number++) {
+        const uint8_t *newline = memchr(lines.bytes + at, '\n', lines.length - at);
+        size_t end = newline == NULL ? lines.length : (size_t)(newline - lines.bytes);
+        struct shown wrong = {.length = 0};
+        say(&wrong, "line %zu: ", number);
+        if (!add_line(environment, start, (struct span){lines.bytes + at, end - at}, &wrong))
+            return trouble(file, wrong.text);
+        at = end + 1;
+    }
+    return true;
+}
+
+static bool begins(struct span bytes, const char *with)
+{
+    return bytes.length >= strlen(with) && memcmp(bytes.bytes, with, strlen(with)) == 0;
 }
 
 static bool add_file(struct environment *environment, const char *name)
 {
     static uint8_t bytes[sizeof environment->bytes];
-    size_t length = read_some(name, name, bytes, sizeof bytes);
-    size_t start = environment->length;
-    if (length > sizeof bytes)
+    const char *shown = strcmp(name, "-") == 0 ? "<stdin>" : name;
+    struct span lines = {bytes, read_some(name, shown, bytes, sizeof bytes)};
+    if (lines.length > sizeof bytes)
         return false;
-    for (size_t at = 0, line = 1; at < length; line++) {
-        const uint8_t *newline = memchr(bytes + at, '\n', length - at);
-        size_t end = newline == NULL ? length : (size_t)(newline - bytes);
-        const char *wrong = add_line(environment, start, (struct span){bytes + at, end - at});
-        if (wrong != NULL) {
-            struct shown shown = {.length = 0};
-            say(&shown, "line %zu: %s", line, wrong);
-            return trouble(name, shown.text);
-        }
-        at = end + 1;
-    }
-    return true;
+    if (begins(lines, "\xff\xfe") || begins(lines, "\xfe\xff"))
+        return trouble(shown, "this is UTF-16 text: save it as UTF-8");
+    size_t mark = begins(lines, "\xef\xbb\xbf") ? 3 : 0; /* a byte order mark belongs to no name */
+    return add_lines(environment, shown, (struct span){bytes + mark, lines.length - mark});
 }
 
 /* -e comes before files, and files in order: of equal names the library takes the first. */

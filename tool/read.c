@@ -11,7 +11,7 @@ bool trouble(const char *name, const char *what)
 {
     struct shown shown = {.length = 0};
     say_bytes(&shown, (struct span){(const uint8_t *)name, strlen(name)}, 200);
-    fprintf(stderr, "dzintrulo: %s: %s\n", shown.text, what);
+    fprintf(stderr, "dzintrulo: %s: %s\n", shown.length == 0 ? "''" : shown.text, what);
     return false;
 }
 
