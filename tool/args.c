@@ -1,33 +1,8 @@
-/* The command line: options, then operands. */
+/* The command line: options and operands in any order. */
 #include "tool.h"
 
 #include <stdlib.h>
 #include <string.h>
-
-enum meaning { ASCII, COMPACT, RAW, VERBOSE, MICROMETRES, OUTPUT, FOR, BUDGET, NAME, FILE_OF_NAMES, COLOR, DIAGNOSTICS, HELP };
-
-/* An option, the commands that have it by their first letters (* is all), and whether a word belongs to it. */
-static const struct option {
-    enum meaning meaning;
-    char letter;
-    const char *word;
-    const char *commands;
-    bool takes;
-} options[] = {
-    {ASCII, 'a', "ascii", "rg", false},
-    {COMPACT, 'c', "compact", "rg", false},
-    {RAW, 'r', "raw", "g", false},
-    {VERBOSE, 'v', "verbose", "c", false},
-    {MICROMETRES, 0, "um", "g", false},
-    {OUTPUT, 'o', "output", "r", true},
-    {FOR, 0, "for", "gt", true},
-    {BUDGET, 0, "budget", "r", true},
-    {NAME, 'e', "env", "rcgt", true},
-    {FILE_OF_NAMES, 0, "env-file", "rcgt", true},
-    {COLOR, 0, "color", "*", true},
-    {DIAGNOSTICS, 0, "diagnostics", "*", true},
-    {HELP, 'h', "help", "*", false},
-};
 
 enum status usage_error(const char *format, ...)
 {
@@ -40,19 +15,13 @@ enum status usage_error(const char *format, ...)
     return TROUBLE;
 }
 
-static bool belongs(const struct option *option, const char *command)
-{
-    return option->commands[0] == '*' || strchr(option->commands, command[0]) != NULL;
-}
-
 /* The option of this letter, or of this word, that the command has. */
-static const struct option *find_option(const char *command, char letter, const char *word, size_t length)
+static const struct option *find_option(const struct command *command, char letter, const char *word, size_t length)
 {
-    for (size_t i = 0; i < sizeof options / sizeof options[0]; i++) {
-        const struct option *option = &options[i];
+    for (const struct option *option = options; option->word != NULL; option++) {
         bool named = word == NULL ? option->letter == letter
                                   : strlen(option->word) == length && strncmp(option->word, word, length) == 0;
-        if (named && belongs(option, command))
+        if (named && (option->commands & command->bit) != 0)
             return option;
     }
     return NULL;
@@ -101,11 +70,22 @@ static bool add_word(const char **words, size_t *count, size_t most, const char 
     return true;
 }
 
+/* What can be meant once is refused twice: one of the two would be lost. */
+static bool set_once(const char **place, const char *option, const char *word)
+{
+    if (*place != NULL) {
+        usage_error("%s is given twice", option);
+        return false;
+    }
+    *place = word;
+    return true;
+}
+
 static bool set_word(struct args *args, enum meaning meaning, const char *word)
 {
     switch (meaning) {
-    case OUTPUT: args->output = word; return true;
-    case FOR: args->for_file = word; return true;
+    case OUTPUT: return set_once(&args->output, "-o", word);
+    case FOR: return set_once(&args->for_file, "--for", word);
     case BUDGET: return set_budget(args, word);
     case NAME: return add_word(args->names, &args->name_count, NAMES_GIVEN_MAX, word);
     case FILE_OF_NAMES: return add_word(args->files, &args->file_count, FILES_GIVEN_MAX, word);
@@ -127,17 +107,17 @@ static void set_flag(struct args *args, enum meaning meaning)
 }
 
 /* --WORD, --WORD=TEXT or --WORD TEXT. The arguments taken, or 0 if it is wrong. */
-static int take_long(struct args *args, const char *command, char **argv)
+static int take_long(struct args *args, const struct command *command, char **argv)
 {
     const char *word = argv[0] + 2;
     size_t length = strcspn(word, "=");
     const struct option *option = find_option(command, 0, word, length);
     const char *given = word[length] == '=' ? word + length + 1 : NULL;
-    if (option == NULL || (given != NULL && !option->takes)) {
-        usage_error("%s has no option '%s'", command, argv[0]);
+    if (option == NULL || (given != NULL && option->takes == NULL)) {
+        usage_error("%s has no option '%s'", command->name, argv[0]);
         return 0;
     }
-    if (!option->takes) {
+    if (option->takes == NULL) {
         set_flag(args, option->meaning);
         return 1;
     }
@@ -149,15 +129,15 @@ static int take_long(struct args *args, const char *command, char **argv)
 }
 
 /* -ac, -oSHEET or -o SHEET, likewise. */
-static int take_short(struct args *args, const char *command, char **argv)
+static int take_short(struct args *args, const struct command *command, char **argv)
 {
     for (const char *letter = argv[0] + 1; *letter != '\0'; letter++) {
         const struct option *option = find_option(command, *letter, NULL, 0);
         if (option == NULL) {
-            usage_error("%s has no option '-%c'", command, *letter);
+            usage_error("%s has no option '-%c'", command->name, *letter);
             return 0;
         }
-        if (!option->takes) {
+        if (option->takes == NULL) {
             set_flag(args, option->meaning);
             continue;
         }
@@ -171,21 +151,27 @@ static int take_short(struct args *args, const char *command, char **argv)
     return 1;
 }
 
-bool read_args(struct args *args, const char *command, int argc, char **argv)
+static int take_operand(struct args *args, char *word)
+{
+    args->operands[args->operand_count++] = word;
+    return 1;
+}
+
+/* Options and operands stand in any order; the operands are moved to the front. */
+bool read_args(struct args *args, const struct command *command, int argc, char **argv)
 {
     int at = 0;
     args->budget = DZ_BUDGET_MAX;
-    while (at < argc && argv[at][0] == '-' && argv[at][1] != '\0') {
-        if (strcmp(argv[at], "--") == 0) {
-            at++;
-            break;
-        }
-        int taken = argv[at][1] == '-' ? take_long(args, command, argv + at) : take_short(args, command, argv + at);
+    args->operands = argv;
+    while (at < argc && strcmp(argv[at], "--") != 0) {
+        int taken = argv[at][0] != '-' || argv[at][1] == '\0' ? take_operand(args, argv[at])
+                    : argv[at][1] == '-'                      ? take_long(args, command, argv + at)
+                                                              : take_short(args, command, argv + at);
         if (taken == 0)
             return false;
         at += taken;
     }
-    args->operands = argv + at;
-    args->operand_count = argc - at;
+    for (at++; at < argc; at++)
+        take_operand(args, argv[at]);
     return true;
 }

@@ -3,34 +3,38 @@
 
 #include <string.h>
 
-/* A value of a whole table. */
-struct view {
-    const uint8_t *value, *text;
-};
-
-static bool same_texts(const uint8_t *one, const uint8_t *one_text, const uint8_t *other, const uint8_t *other_text)
+bool same_texts(const uint8_t *one, const uint8_t *one_text, const uint8_t *other, const uint8_t *other_text)
 {
     struct span a = text_of(one, one_text), b = text_of(other, other_text);
     return a.length == b.length && memcmp(a.bytes, b.bytes, a.length) == 0;
 }
 
-static const uint8_t *next_member(const uint8_t *member, bool is_object)
+/* Whether two values are of one kind, and have the same text if they have one. */
+bool same_kind_and_text(struct view one, struct view other)
 {
-    return end_of(is_object ? member + dz_record_length(member) : member);
+    int kind = dz_kind(one.value);
+    bool has_text = kind == DZ_KIND_NUMBER || kind == DZ_KIND_STRING;
+    return kind == dz_kind(other.value) && (!has_text || same_texts(one.value, one.text, other.value, other.text));
+}
+
+/* The key record of an object that has the same text as a key of another table, or NULL. */
+const uint8_t *find_key(struct view object, const uint8_t *key, const uint8_t *text)
+{
+    const uint8_t *member = object.value + dz_record_length(object.value);
+    for (size_t left = dz_member_count(object.value); left > 0; left--) {
+        if (same_texts(member, object.text, key, text))
+            return member;
+        member = next_member(member, true);
+    }
+    return NULL;
 }
 
 /* The first key of an object that another object lacks, or NULL. */
 static const uint8_t *lacking(struct view object, struct view other)
 {
     const uint8_t *key = object.value + dz_record_length(object.value);
-    for (size_t i = 0; i < dz_member_count(object.value); i++) {
-        const uint8_t *there = other.value + dz_record_length(other.value);
-        size_t left = dz_member_count(other.value);
-        while (left > 0 && !same_texts(key, object.text, there, other.text)) {
-            there = next_member(there, true);
-            left--;
-        }
-        if (left == 0)
+    for (size_t left = dz_member_count(object.value); left > 0; left--) {
+        if (find_key(other, key, object.text) == NULL)
             return key;
         key = next_member(key, true);
     }
@@ -80,11 +84,6 @@ static void say_both(struct shown *shown, const struct trace *trace, struct view
     say(shown, " in the sheet");
 }
 
-static bool has_text(int kind)
-{
-    return kind == DZ_KIND_NUMBER || kind == DZ_KIND_STRING;
-}
-
 static bool same_keys(struct view file, struct view sheet)
 {
     const uint8_t *a = file.value + dz_record_length(file.value), *b = sheet.value + dz_record_length(sheet.value);
@@ -123,8 +122,7 @@ static bool say_member(struct shown *shown, struct trace *trace, struct view fil
 static bool say_first(struct shown *shown, struct trace *trace, struct view file, struct view sheet)
 {
     int kind = dz_kind(file.value);
-    bool differ = kind != dz_kind(sheet.value) ||
-                  (has_text(kind) && !same_texts(file.value, file.text, sheet.value, sheet.text)) ||
+    bool differ = !same_kind_and_text(file, sheet) ||
                   (kind == DZ_KIND_ARRAY && dz_member_count(file.value) != dz_member_count(sheet.value));
     if (differ) {
         say_both(shown, trace, file, sheet);

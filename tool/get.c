@@ -1,45 +1,6 @@
 /* get: settings of a file or a sheet. All are found before any is printed. */
 #include "tool.h"
 
-#include <string.h>
-
-/* What the command reads settings from. */
-struct source {
-    const char *name;
-    struct dz_sheet sheet;
-    struct job job;
-};
-
-static enum status open_document(struct source *source)
-{
-    static struct result result;
-    resolve(&source->job, &result);
-    if (dz_number(result.answer) != DZ_OK)
-        return refuse(&source->job, result.answer);
-    source->sheet = result.sheet;
-    return DONE;
-}
-
-/* With --for FILE the sheet is checked first; without it only number 15 protects. */
-static enum status open_checked(const struct args *args, struct source *source)
-{
-    struct input sheet = source->job.document;
-    if (!open_sheet(&sheet, &source->sheet))
-        return REFUSED;
-    if (args->for_file == NULL)
-        return DONE;
-    if (!read_input(args->for_file, &source->job.document) || !is_document(&source->job.document))
-        return TROUBLE;
-    uint64_t answer = check(&source->job, &source->sheet);
-    return dz_check_accepted(answer) ? DONE : refuse_check(&source->job, &sheet, &source->sheet, answer);
-}
-
-static uint64_t look_up(const struct source *source, const char *path)
-{
-    const struct dz_sheet *sheet = &source->sheet;
-    return dz_look_up(sheet->table, sheet->table_length, sheet->text, sheet->text_length, (const uint8_t *)path, strlen(path));
-}
-
 static bool is_raw(const struct args *args, const uint8_t *value)
 {
     return args->raw && dz_kind(value) == DZ_KIND_STRING;
@@ -77,20 +38,37 @@ static void print_value(const struct args *args, const struct source *source, co
     putchar('\n');
 }
 
+static enum status print_paths(const struct args *args, const struct source *source)
+{
+    enum status status = DONE;
+    for (int i = 1; i < args->operand_count && status == DONE; i++)
+        status = try_value(args, source, args->operands[i]);
+    for (int i = 1; i < args->operand_count && status == DONE; i++)
+        print_value(args, source, args->operands[i]);
+    return status;
+}
+
+static enum status print_all(const struct args *args, const struct source *source)
+{
+    enum status status = try_table(source);
+    if (status == DONE)
+        print_table(args, &source->sheet);
+    return status;
+}
+
 enum status run_get(const struct args *args)
 {
     static struct source source;
-    enum status status = DONE;
-    if (args->operand_count < 2)
-        return usage_error("get needs FILE or SHEET, and a PATH");
+    if (args->operand_count < 1)
+        return usage_error("get needs FILE or SHEET");
+    if (args->micrometres && args->operand_count < 2)
+        return usage_error("--um needs a PATH");
     if (!start_job(args, args->operands[0], &source.job))
         return TROUBLE;
-    source.name = source.job.document.name;
-    bool is_sheet = source.job.document.is_sheet || args->for_file != NULL;
-    status = is_sheet ? open_checked(args, &source) : open_document(&source);
-    for (int i = 1; i < args->operand_count && status == DONE; i++)
-        status = try_value(args, &source, args->operands[i]);
-    for (int i = 1; i < args->operand_count && status == DONE; i++)
-        print_value(args, &source, args->operands[i]);
-    return status;
+    if (source.job.document.is_sheet && args->for_file == NULL && !names_have_use(args, &source.job.document))
+        return TROUBLE;
+    enum status status = open_source(args, &source);
+    if (status != DONE)
+        return status;
+    return args->operand_count == 1 ? print_all(args, &source) : print_paths(args, &source);
 }

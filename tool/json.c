@@ -20,6 +20,12 @@ const uint8_t *end_of(const uint8_t *value)
     return value;
 }
 
+/* The member behind this one, which begins with its key in an object. */
+const uint8_t *next_member(const uint8_t *member, bool is_object)
+{
+    return end_of(is_object ? member + dz_record_length(member) : member);
+}
+
 static void put_unit(FILE *out, uint32_t unit)
 {
     fprintf(out, "\\u%04x", (unsigned)unit);
@@ -66,6 +72,15 @@ void put_string(const struct printer *printer, struct span string)
             fwrite(here, 1, size, out);
     }
     fputc('"', out);
+}
+
+/* A name as a path has it: in quotes unless it is plain. */
+void put_name(const struct printer *printer, struct span name)
+{
+    if (is_plain_name(name))
+        fwrite(name.bytes, 1, name.length, printer->out);
+    else
+        put_string(printer, name);
 }
 
 static void put_simple(const struct printer *printer, const uint8_t *value)

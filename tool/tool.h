@@ -51,8 +51,29 @@ struct args {
     char **operands;
     int operand_count;
 };
-bool read_args(struct args *args, const char *command, int argc, char **argv);
+struct command {
+    const char *name;
+    unsigned bit; /* by which an option names the commands that have it */
+    enum status (*run)(const struct args *args);
+    const char *usage, *says; /* of one of its forms */
+};
+bool read_args(struct args *args, const struct command *command, int argc, char **argv);
 enum status usage_error(const char *format, ...);
+
+/* help.c: the commands and the options, each with its words. */
+enum meaning { ASCII, COMPACT, RAW, VERBOSE, MICROMETRES, OUTPUT, FOR, BUDGET, NAME, FILE_OF_NAMES, COLOR, DIAGNOSTICS, HELP };
+struct option {
+    enum meaning meaning;
+    char letter; /* or 0 */
+    const char *word;
+    unsigned commands;
+    const char *takes; /* what the word behind it is called, or NULL */
+    const char *says;
+};
+extern const struct option options[]; /* one without a word ends them */
+const struct command *find_command(const char *name);
+enum status show_help(void);
+enum status show_help_of(const struct command *command);
 
 /* read.c: documents and sheet files. */
 struct input {
@@ -114,6 +135,12 @@ enum status refuse_check(const struct job *job, const struct input *input, const
 enum status refuse_path(const char *name, const struct dz_sheet *sheet, const char *path, uint64_t answer);
 enum status refuse_length(const char *name, const char *path, const uint8_t *value, const struct dz_sheet *sheet, int number);
 void choose_words(struct message *message, const struct job *job, int number);
+struct view { /* a value of a whole table */
+    const uint8_t *value, *text;
+};
+bool same_texts(const uint8_t *one, const uint8_t *one_text, const uint8_t *other, const uint8_t *other_text);
+bool same_kind_and_text(struct view one, struct view other);
+const uint8_t *find_key(struct view object, const uint8_t *key, const uint8_t *text);
 void say_difference(struct shown *shown, const struct dz_sheet *file, const struct dz_sheet *sheet);
 enum status explain(const struct args *args);
 
@@ -125,8 +152,10 @@ struct printer {
 };
 const uint8_t *put_json(const struct printer *printer, const uint8_t *value);
 void put_string(const struct printer *printer, struct span string);
+void put_name(const struct printer *printer, struct span name);
 struct span text_of(const uint8_t *record, const uint8_t *text);
 const uint8_t *end_of(const uint8_t *value);
+const uint8_t *next_member(const uint8_t *member, bool is_object);
 
 /* trace.c: the path of a value in a table, and what JSON cannot hold. */
 struct trace {
@@ -136,6 +165,7 @@ struct trace {
     } step[DZ_NESTING_MAX];
     size_t depth;
 };
+bool is_plain_name(struct span name);
 void say_name(struct shown *shown, struct span name);
 void say_trace(struct shown *shown, const struct trace *trace, const uint8_t *text);
 void say_value(struct shown *shown, const uint8_t *value, const uint8_t *text);
@@ -146,12 +176,27 @@ bool open_sheet(const struct input *input, struct dz_sheet *sheet);
 enum status write_sheet(const struct job *job, const struct result *result, const char *name);
 bool close_output(void);
 
+/* source.c: what settings are read from. */
+struct source {
+    const char *name;
+    struct job job; /* of a sheet: the file that it is checked for */
+    struct result result;
+    struct dz_sheet sheet;
+};
+enum status open_source(const struct args *args, struct source *source);
+bool names_have_use(const struct args *args, const struct input *sheet);
+uint64_t look_up(const struct source *source, const char *path);
+enum status try_table(const struct source *source);
+void print_table(const struct args *args, const struct dz_sheet *sheet);
+
 /* The commands. */
 enum status run_resolve(const struct args *args);
 enum status run_check(const struct args *args);
 enum status run_get(const struct args *args);
+enum status run_diff(const struct args *args);
 enum status run_trail(const struct args *args);
 enum status run_dump(const struct args *args);
+enum status run_help(const struct args *args);
 bool is_document(const struct input *input);
 bool start_job(const struct args *args, const char *name, struct job *job);
 

@@ -3,13 +3,34 @@
 
 #include <string.h>
 
+/* Whether a name begins with a piece that ends by itself: a number, true, false or null. A `-` behind it would begin a number. */
+static bool begins_with_piece(struct span name)
+{
+    static const char *const words[] = {"true", "false", "null"};
+    bool begins = name.length > 0 && name.bytes[0] >= '0' && name.bytes[0] <= '9';
+    for (size_t i = 0; i < sizeof words / sizeof words[0]; i++)
+        begins = begins || (name.length >= strlen(words[i]) && memcmp(name.bytes, words[i], strlen(words[i])) == 0);
+    return begins;
+}
+
+/* Whether a name may stand in a path without quotes. */
+bool is_plain_name(struct span name)
+{
+    static const char plain[] = "-0123456789_ABCDEFGHIJKLMNOPQRSTUVWXYZabcdefghijklmnopqrstuvwxyz";
+    if (name.length == 0 || name.bytes[0] == '-')
+        return false;
+    if (memchr(name.bytes, '-', name.length) != NULL && begins_with_piece(name))
+        return false;
+    for (size_t i = 0; i < name.length; i++)
+        if (name.bytes[i] == 0 || strchr(plain, name.bytes[i]) == NULL)
+            return false;
+    return true;
+}
+
 /* A name as it may stand in a path: in quotes unless it is plain. */
 void say_name(struct shown *shown, struct span name)
 {
-    static const char plain[] = "ABCDEFGHIJKLMNOPQRSTUVWXYZabcdefghijklmnopqrstuvwxyz0123456789_-";
-    bool is_plain = name.length > 0 && name.bytes[0] != '-';
-    for (size_t i = 0; i < name.length && is_plain; i++)
-        is_plain = name.bytes[i] != 0 && strchr(plain, name.bytes[i]) != NULL;
+    bool is_plain = is_plain_name(name);
     if (!is_plain)
         say(shown, "\"");
     say_bytes(shown, name, 60);
@@ -145,7 +166,7 @@ static const char *fault_in(struct trace *trace, const uint8_t *value, const uin
     return NULL;
 }
 
-/* Says so if JSON cannot hold the value that a path names: readers of JSON disagree on such ones. */
+/* Says so if JSON cannot hold the value that a path names, the root if it is empty: readers of JSON disagree on such ones. */
 bool json_holds(const char *name, const char *path, const uint8_t *value, const uint8_t *text)
 {
     struct trace trace = {.depth = 0};
@@ -155,8 +176,8 @@ bool json_holds(const char *name, const char *path, const uint8_t *value, const 
     struct message message = {.kind = "error", .name = name};
     say(&message.words, "JSON cannot hold `");
     say_bytes(&message.words, (struct span){(const uint8_t *)path, strlen(path)}, 60);
-    if (trace.depth > 0) {
-        say(&message.words, "%s", trace.step[0].key == NULL ? "" : ".");
+    if (trace.depth > 0 || path[0] == '\0') {
+        say(&message.words, "%s", path[0] == '\0' || trace.step[0].key == NULL ? "" : ".");
         say_trace(&message.words, &trace, text);
     }
     say(&message.words, "`: %s", fault);
