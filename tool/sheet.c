@@ -4,6 +4,7 @@
 #include "tool.h"
 
 #include <errno.h>
+#include <signal.h>
 #include <stdlib.h>
 #include <string.h>
 #include <sys/stat.h>
@@ -45,20 +46,50 @@ static bool put_sheet(FILE *out, const struct dz_sheet *sheet)
     return out == stdout || (fflush(out) == 0 && !ferror(out));
 }
 
-/* Whether a file may be put in this one's place: nothing is there, or a sheet file. */
-static bool may_replace(const char *name)
+/* ---- Writing a file: whole or not there, whatever happens. */
+
+#define NAME_MOST 4096
+#define LINKS_MOST 40
+
+static enum status failed(const char *name, const char *what)
 {
-    struct stat status;
+    trouble(name, what);
+    return TROUBLE;
+}
+
+/* Follows symbolic links, so that their target is written and they stay. What is wrong, or NULL. */
+static const char *follow_links(const char *name, char target[NAME_MOST])
+{
+    static char link[NAME_MOST];
+    ssize_t length = 0;
+    if (snprintf(target, NAME_MOST, "%s", name) >= NAME_MOST)
+        return strerror(ENAMETOOLONG);
+    for (int links = 0; links <= LINKS_MOST; links++) {
+        length = readlink(target, link, sizeof link);
+        if (length < 0)
+            return NULL;
+        const char *slash = strrchr(target, '/');
+        size_t folder = link[0] == '/' || slash == NULL ? 0 : (size_t)(slash - target) + 1;
+        if (folder + (size_t)length >= NAME_MOST)
+            return strerror(ENAMETOOLONG);
+        memcpy(target + folder, link, (size_t)length);
+        target[folder + (size_t)length] = '\0';
+    }
+    return strerror(ELOOP);
+}
+
+/* Whether the file that is there may be replaced; says why if not. */
+static bool may_replace(const char *name, const struct stat *status)
+{
     uint8_t first[4];
-    if (stat(name, &status) != 0)
-        return errno == ENOENT || trouble(name, strerror(errno));
-    if (!S_ISREG(status.st_mode))
+    if (!S_ISREG(status->st_mode))
         return trouble(name, "no regular file: -o - writes to standard output");
-    FILE *file = fopen(name, "rb");
-    size_t length = file == NULL ? 0 : fread(first, 1, sizeof first, file);
-    if (file != NULL)
-        fclose(file);
-    return status.st_size == 0 || dz_sheet_begins(first, length) || trouble(name, "is there and is no sheet file: not written over");
+    FILE *file = access(name, W_OK) == 0 ? fopen(name, "rb") : NULL;
+    if (file == NULL)
+        return trouble(name, strerror(errno));
+    size_t length = fread(first, 1, sizeof first, file);
+    fclose(file);
+    return status->st_size == 0 || dz_sheet_begins(first, length) || trouble(name, "is there and is no sheet file: not written over");
 }
 
 /* Reads the file back and lets the library check it. */
@@ -71,12 +102,12 @@ static bool reads_back(const struct job *job, FILE *file)
     return dz_sheet_open(bytes, length, &sheet) && dz_check_accepted(check(job, &sheet));
 }
 
-/* Writes, reads back and closes; what is wrong, or NULL. */
+/* Writes to the disk, reads back and closes; what is wrong, or NULL. */
 static const char *fill_file(const struct job *job, const struct dz_sheet *sheet, FILE *file)
 {
     const char *wrong = NULL;
     errno = 0;
-    if (!put_sheet(file, sheet))
+    if (!put_sheet(file, sheet) || fsync(fileno(file)) != 0)
         wrong = strerror(errno);
     else if (!reads_back(job, file))
         wrong = "what was written is not what is read back";
@@ -85,37 +116,95 @@ static const char *fill_file(const struct job *job, const struct dz_sheet *sheet
     return wrong;
 }
 
-static enum status failed(const char *name, const char *what)
+/* An older file keeps its mode, and its owner as far as that is allowed. */
+static bool set_mode(int descriptor, const struct stat *older)
 {
-    trouble(name, what);
-    return TROUBLE;
-}
-
-/* Writes beside the name and then renames, so that there is never half a sheet. */
-static enum status write_beside(const struct job *job, const struct dz_sheet *sheet, const char *name)
-{
-    static char beside[4096];
-    if (snprintf(beside, sizeof beside, "%s.XXXXXX", name) >= (int)sizeof beside)
-        return failed(name, "the name is too long");
-    int descriptor = mkstemp(beside);
-    if (descriptor < 0)
-        return failed(name, strerror(errno));
     mode_t mask = umask(0);
     umask(mask);
-    FILE *file = fchmod(descriptor, 0666 & ~mask) == 0 ? fdopen(descriptor, "w+b") : NULL;
+    if (older == NULL)
+        return fchmod(descriptor, 0666 & ~mask) == 0;
+    bool kept = fchown(descriptor, older->st_uid, older->st_gid) == 0;
+    return fchmod(descriptor, older->st_mode & (kept ? 07777 : 0777)) == 0;
+}
+
+static const int stops[] = {SIGHUP, SIGINT, SIGQUIT, SIGTERM};
+
+/* Those of the signals that end a process which are not ignored here, as by nohup. */
+static sigset_t own_stops(void)
+{
+    sigset_t signals;
+    struct sigaction action;
+    sigemptyset(&signals);
+    for (size_t i = 0; i < sizeof stops / sizeof stops[0]; i++)
+        if (sigaction(stops[i], NULL, &action) == 0 && action.sa_handler != SIG_IGN)
+            sigaddset(&signals, stops[i]);
+    return signals;
+}
+
+/* Whether one of these signals has come and waits. */
+static bool is_interrupted(const sigset_t *signals)
+{
+    sigset_t pending;
+    if (sigpending(&pending) != 0)
+        return false;
+    for (size_t i = 0; i < sizeof stops / sizeof stops[0]; i++)
+        if (sigismember(signals, stops[i]) == 1 && sigismember(&pending, stops[i]) == 1)
+            return true;
+    return false;
+}
+
+/* Writes beside the name and then renames, unless a signal waits. What is wrong, or NULL. */
+static const char *write_beside(const struct job *job, const struct dz_sheet *sheet, const char *name, const struct stat *older,
+                                const sigset_t *signals)
+{
+    static char beside[NAME_MOST];
+    if (snprintf(beside, sizeof beside, "%s.XXXXXX", name) >= (int)sizeof beside)
+        return strerror(ENAMETOOLONG);
+    int descriptor = mkstemp(beside);
+    if (descriptor < 0)
+        return strerror(errno);
+    FILE *file = set_mode(descriptor, older) ? fdopen(descriptor, "w+b") : NULL;
     const char *wrong = file == NULL ? strerror(errno) : fill_file(job, sheet, file);
+    if (wrong == NULL && is_interrupted(signals))
+        wrong = "interrupted";
     if (wrong == NULL && rename(beside, name) != 0)
         wrong = strerror(errno);
-    if (wrong == NULL)
-        return DONE;
-    unlink(beside);
-    return failed(name, wrong);
+    if (wrong != NULL)
+        unlink(beside);
+    return wrong;
+}
+
+/* Signals wait until the file is renamed or gone again, and end the process then. */
+static const char *write_guarded(const struct job *job, const struct dz_sheet *sheet, const char *name, const struct stat *older)
+{
+    sigset_t signals = own_stops(), before;
+    if (sigprocmask(SIG_BLOCK, &signals, &before) != 0)
+        return strerror(errno);
+    const char *wrong = write_beside(job, sheet, name, older, &signals);
+    sigprocmask(SIG_SETMASK, &before, NULL);
+    return wrong;
+}
+
+static enum status write_file(const struct job *job, const struct dz_sheet *sheet, const char *name)
+{
+    static char target[NAME_MOST];
+    struct stat older;
+    const char *wrong = follow_links(name, target);
+    if (wrong != NULL)
+        return failed(name, wrong);
+    bool is_there = stat(target, &older) == 0;
+    if (!is_there && errno != ENOENT)
+        return failed(name, strerror(errno));
+    if (is_there && !may_replace(target, &older))
+        return TROUBLE;
+    wrong = write_guarded(job, sheet, target, is_there ? &older : NULL);
+    return wrong == NULL ? DONE : failed(name, wrong);
 }
 
 enum status write_sheet(const struct job *job, const struct result *result, const char *name)
 {
     if (strcmp(name, "-") != 0)
-        return may_replace(name) ? write_beside(job, &result->sheet, name) : TROUBLE;
+        return write_file(job, &result->sheet, name);
     if (isatty(STDOUT_FILENO))
         return failed("standard output", "a sheet file is not written to a terminal");
     put_sheet(stdout, &result->sheet);
