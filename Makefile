@@ -62,12 +62,16 @@ install: all $(OUT)/libdzintrulo.so.0
 	version=$$(sed -n 's/^#define DZINTRULO_VERSION "\(.*\)"/\1/p' include/dzintrulo.h); \
 	sed -e 's|@PREFIX@|$(PREFIX)|' -e "s|@VERSION@|$$version|" tool/dzintrulo.pc.in >$(DESTDIR)$(PREFIX)/lib/pkgconfig/dzintrulo.pc
 	cp tool/dzintrulo.1 $(DESTDIR)$(PREFIX)/share/man/man1/dzintrulo.1
+	mkdir -p $(DESTDIR)$(PREFIX)/share/bash-completion/completions $(DESTDIR)$(PREFIX)/share/zsh/site-functions
+	cp tool/completion/dzintrulo.bash $(DESTDIR)$(PREFIX)/share/bash-completion/completions/dzintrulo
+	cp tool/completion/_dzintrulo $(DESTDIR)$(PREFIX)/share/zsh/site-functions/_dzintrulo
 
 uninstall:
 	rm -f $(DESTDIR)$(PREFIX)/bin/dzintrulo $(DESTDIR)$(PREFIX)/include/dzintrulo.h \
 		$(DESTDIR)$(PREFIX)/include/dzintrulo_sheet.h $(DESTDIR)$(PREFIX)/lib/libdzintrulo.a \
 		$(DESTDIR)$(PREFIX)/lib/libdzintrulo.so $(DESTDIR)$(PREFIX)/lib/libdzintrulo.so.0 \
-		$(DESTDIR)$(PREFIX)/lib/pkgconfig/dzintrulo.pc $(DESTDIR)$(PREFIX)/share/man/man1/dzintrulo.1
+		$(DESTDIR)$(PREFIX)/lib/pkgconfig/dzintrulo.pc $(DESTDIR)$(PREFIX)/share/man/man1/dzintrulo.1 \
+		$(DESTDIR)$(PREFIX)/share/bash-completion/completions/dzintrulo $(DESTDIR)$(PREFIX)/share/zsh/site-functions/_dzintrulo
 
 # What is proved stays: only the C programs go.
 clean:

@@ -132,20 +132,12 @@ static bool add_given(struct environment *environment, const char *given)
 
 /* ---- Files. */
 
-static bool is_blank(struct span line)
-{
-    for (size_t i = 0; i < line.length; i++)
-        if (line.bytes[i] != ' ' && line.bytes[i] != '\t')
-            return false;
-    return true;
-}
-
 /* A line of a file, without its newline. */
 static bool add_line(struct environment *environment, size_t start, struct span line, struct shown *wrong)
 {
     if (line.length > 0 && line.bytes[line.length - 1] == '\r')
         line.length--;
-    if (is_blank(line) || line.bytes[0] == '#')
+    if (line.length == 0 || line.bytes[0] == '#')
         return true;
     if (memchr(line.bytes, '\r', line.length) == NULL)
         return add_text(environment, start, line, wrong);
@@ -160,9 +152,8 @@ static bool add_lines(struct environment *environment, const char *file, struct 
         const uint8_t *newline = memchr(lines.bytes + at, '\n', lines.length - at);
         size_t end = newline == NULL ? lines.length : (size_t)(newline - lines.bytes);
         struct shown wrong = {.length = 0};
-        say(&wrong, "line %zu: ", number);
         if (!add_line(environment, start, (struct span){lines.bytes + at, end - at}, &wrong))
-            return trouble(file, wrong.text);
+            return trouble_at(file, number, wrong.text);
         at = end + 1;
     }
     return true;
@@ -176,14 +167,13 @@ static bool begins(struct span bytes, const char *with)
 static bool add_file(struct environment *environment, const char *name)
 {
     static uint8_t bytes[sizeof environment->bytes];
-    const char *shown = strcmp(name, "-") == 0 ? "<stdin>" : name;
-    struct span lines = {bytes, read_some(name, shown, bytes, sizeof bytes)};
+    struct span lines = {bytes, read_some(name, name, bytes, sizeof bytes)};
     if (lines.length > sizeof bytes)
         return false;
     if (begins(lines, "\xff\xfe") || begins(lines, "\xfe\xff"))
-        return trouble(shown, "this is UTF-16 text: save it as UTF-8");
+        return trouble(name, "this is UTF-16 text: save it as UTF-8");
     size_t mark = begins(lines, "\xef\xbb\xbf") ? 3 : 0; /* a byte order mark belongs to no name */
-    return add_lines(environment, shown, (struct span){bytes + mark, lines.length - mark});
+    return add_lines(environment, name, (struct span){bytes + mark, lines.length - mark});
 }
 
 /* -e comes before files, and files in order: of equal names the library takes the first. */

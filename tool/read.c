@@ -7,17 +7,26 @@
 #include <string.h>
 #include <sys/stat.h>
 
-bool trouble(const char *name, const char *what)
-{
-    struct shown shown = {.length = 0};
-    say_bytes(&shown, (struct span){(const uint8_t *)name, strlen(name)}, 200);
-    fprintf(stderr, "dzintrulo: %s: %s\n", shown.length == 0 ? "''" : shown.text, what);
-    return false;
-}
-
 static bool is_stdin(const char *name)
 {
     return strcmp(name, "-") == 0;
+}
+
+/* What is wrong in a line of a file, or with the file if the line is 0. */
+bool trouble_at(const char *name, size_t line, const char *what)
+{
+    struct shown shown = {.length = 0};
+    const char *seen = is_stdin(name) ? "<stdin>" : name[0] == '\0' ? "''" : name;
+    say_bytes(&shown, (struct span){(const uint8_t *)seen, strlen(seen)}, 200);
+    if (line > 0)
+        say(&shown, ": line %zu", line);
+    fprintf(stderr, "dzintrulo: %s: %s\n", shown.text, what);
+    return false;
+}
+
+bool trouble(const char *name, const char *what)
+{
+    return trouble_at(name, 0, what);
 }
 
 /* Opens a file, or standard input for `-`, once. */

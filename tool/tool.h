@@ -86,6 +86,7 @@ struct input {
 bool read_input(const char *name, struct input *input);
 size_t read_some(const char *name, const char *shown, uint8_t *buffer, size_t most);
 bool trouble(const char *name, const char *what);
+bool trouble_at(const char *name, size_t line, const char *what);
 
 /* env.c: the environment that is lent to the library, and no other. */
 struct environment {
