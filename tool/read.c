@@ -81,8 +81,7 @@ bool read_input(const char *name, struct input *input)
         return false;
     input->name = is_stdin(name) ? "<stdin>" : name;
     bool read = fill(file, buffers[used++], input);
-    if (file != stdin)
-        fclose(file);
+    fclose(file);
     return read;
 }
 
@@ -97,7 +96,6 @@ size_t read_some(const char *name, const char *shown, uint8_t *buffer, size_t mo
     bool whole = !ferror(file) && fgetc(file) == EOF && !ferror(file);
     if (!whole)
         trouble(shown, errno != 0 ? strerror(errno) : "too long");
-    if (file != stdin)
-        fclose(file);
+    fclose(file);
     return whole ? length : most + 1;
 }
