@@ -51,9 +51,11 @@
  * Lent bytes. Bytes are lent as a pointer and a length. The pointer points to
  *     at least so many readable bytes, of any alignment; where the length is 0
  *     it is not used, and may be NULL. No zero byte ends anything: length
- *     counts, and a zero byte is a byte like any other.
+ *     counts, and a zero byte is a byte like any other. Only what is given as a
+ *     const char * alone ends with one.
  * Hostile bytes. No content and no length of them is an error of the caller.
- *     What cannot be used is refused, with a number and a place.
+ *     What cannot be used is refused, with a number and a place. The functions
+ *     on records alone ask for something: a record that was tested before.
  * Overlap. Bytes that are only read may overlap in any way, or be the same.
  *     A buffer that is written to (dz_resolve() has three) overlaps nothing
  *     else that is lent to the call.
