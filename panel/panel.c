@@ -58,7 +58,7 @@ static size_t name_length(const uint8_t *line, size_t length)
 static size_t put_entry(uint8_t *to, const uint8_t *line, size_t length)
 {
     size_t name = name_length(line, length), quotes = name > 0 && line[0] == '"' ? 1 : 0;
-    if (name == 0 || memchr(line, 0, length) != NULL)
+    if (name == 0 || memchr(line, 0, length) != NULL || memchr(line, '\r', length) != NULL)
         return 0;
     memmove(to, line + quotes, name - 2 * quotes);
     memmove(to + name - 2 * quotes, line + name, length - name);
