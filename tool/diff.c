@@ -50,7 +50,7 @@ static void put_path(const struct comparison *comparison)
             printf("[%zu]", step->index);
         else {
             fputs(i == 0 ? "" : ".", stdout);
-            put_name(&printer, step->name);
+            put_part(&printer, step->name);
         }
     }
     if (comparison->depth == 0)

@@ -74,8 +74,8 @@ void put_string(const struct printer *printer, struct span string)
     fputc('"', out);
 }
 
-/* A name as a path has it: in quotes unless it is plain. */
-void put_name(const struct printer *printer, struct span name)
+/* A name as part of a path: in quotes unless it is plain. */
+void put_part(const struct printer *printer, struct span name)
 {
     if (is_plain_name(name))
         fwrite(name.bytes, 1, name.length, printer->out);

@@ -153,7 +153,7 @@ struct printer {
 };
 const uint8_t *put_json(const struct printer *printer, const uint8_t *value);
 void put_string(const struct printer *printer, struct span string);
-void put_name(const struct printer *printer, struct span name);
+void put_part(const struct printer *printer, struct span name);
 struct span text_of(const uint8_t *record, const uint8_t *text);
 const uint8_t *end_of(const uint8_t *value);
 const uint8_t *next_member(const uint8_t *member, bool is_object);
