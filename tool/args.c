@@ -6,12 +6,15 @@
 
 enum status usage_error(const char *format, ...)
 {
+    struct message message = {.kind = "error", .is_trouble = true};
+    char words[1024];
     va_list values;
     va_start(values, format);
-    fputs("dzintrulo: ", stderr);
-    vfprintf(stderr, format, values);
-    fputs("\ndzintrulo --help lists commands and options\n", stderr);
+    vsnprintf(words, sizeof words, format, values);
     va_end(values);
+    say_word(&message.words, words, sizeof words);
+    say(&message.help, "dzintrulo --help lists commands and options");
+    report(&message);
     return TROUBLE;
 }
 
@@ -90,6 +93,7 @@ static bool set_word(struct args *args, enum meaning meaning, const char *word)
     case NAME: return add_word(args->names, &args->name_count, NAMES_GIVEN_MAX, word);
     case FILE_OF_NAMES: return add_word(args->files, &args->file_count, FILES_GIVEN_MAX, word);
     case COLOR: return set_color(args, word);
+    case STDIN_NAME: args->stdin_name = word; return true;
     default: return set_messages_form(args, word);
     }
 }

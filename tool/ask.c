@@ -43,20 +43,54 @@ size_t begun_places(const struct job *job, size_t places[DZ_BUDGET_MAX])
     return count;
 }
 
-/* Resolves the document with a newline and one byte more behind it. */
-static uint64_t resolve_longer(const struct job *job, char byte)
+/* ---- Changed documents. What is over the library's limit it refuses itself, with number 1. */
+
+void add_bytes_to(struct draft *draft, struct span bytes)
 {
-    static uint8_t longer[DZ_DOCUMENT_MAX];
-    size_t length = job->document.span.length;
-    memcpy(longer, job->document.span.bytes, length);
-    longer[length] = '\n';
-    longer[length + 1] = (uint8_t)byte;
-    return resolve_bytes((struct span){longer, length + 2}, job, 0, &scratch);
+    size_t room = sizeof draft->bytes - draft->length;
+    size_t length = bytes.length < room ? bytes.length : room;
+    if (length > 0)
+        memcpy(draft->bytes + draft->length, bytes.bytes, length);
+    draft->length += length;
 }
 
-static bool is_refused(uint64_t answer, int number, size_t place)
+void add_text_to(struct draft *draft, const char *text)
+{
+    add_bytes_to(draft, (struct span){(const uint8_t *)text, strlen(text)});
+}
+
+/* The job with the draft for its document. */
+struct job job_of(const struct job *job, const struct draft *draft)
+{
+    struct job changed = *job;
+    changed.document.span = (struct span){draft->bytes, draft->length};
+    return changed;
+}
+
+#define ASKED_MOST 4000 /* questions for one call: seconds at worst, and then no more is said than is known */
+
+/* What the library says to the first bytes of the document with a text behind them. */
+uint64_t ask_after(const struct job *job, size_t length, const char *behind)
+{
+    static struct draft draft;
+    static size_t asked = 0;
+    if (asked++ >= ASKED_MOST)
+        return DZ_BAD_INPUT;
+    draft.length = 0;
+    add_bytes_to(&draft, (struct span){job->document.span.bytes, length});
+    add_text_to(&draft, behind);
+    return resolve_bytes((struct span){draft.bytes, draft.length}, job, 0, &scratch);
+}
+
+bool is_refused(uint64_t answer, int number, size_t place)
 {
     return dz_number(answer) == number && dz_place(answer) == place;
+}
+
+/* Whether a document was read to its end: what is refused then is refused in working it out. */
+bool is_read(uint64_t answer)
+{
+    return dz_number(answer) == DZ_OK || (dz_number(answer) >= DZ_UNDEFINED && dz_number(answer) != DZ_MIXED_KINDS);
 }
 
 /* What is open at the end of a document that ends too early. */
@@ -65,7 +99,7 @@ enum open_end open_at_end(const struct job *job)
     size_t length = job->document.span.length;
     if (length + 2 > DZ_DOCUMENT_MAX)
         return OPEN_UNKNOWN;
-    uint64_t answer = resolve_longer(job, '^');
+    uint64_t answer = ask_after(job, length, "\n^");
     if (dz_number(answer) == DZ_BAD_NUMBER_OR_STRING)
         return OPEN_QUOTES;
     if (is_refused(answer, DZ_UNEXPECTED_END, length + 2))
@@ -74,9 +108,9 @@ enum open_end open_at_end(const struct job *job)
         return OPEN_SUBSTITUTION;
     if (!is_refused(answer, DZ_BYTE_NOT_ALLOWED, length + 1))
         return OPEN_UNKNOWN;
-    if (!is_refused(resolve_longer(job, '}'), DZ_BYTE_NOT_ALLOWED, length + 1))
+    if (!is_refused(ask_after(job, length, "\n}"), DZ_BYTE_NOT_ALLOWED, length + 1))
         return OPEN_BRACE;
-    if (!is_refused(resolve_longer(job, ']'), DZ_BYTE_NOT_ALLOWED, length + 1))
+    if (!is_refused(ask_after(job, length, "\n]"), DZ_BYTE_NOT_ALLOWED, length + 1))
         return OPEN_BRACKET;
     return OPEN_NAME;
 }

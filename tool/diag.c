@@ -1,4 +1,4 @@
-/* Messages on stderr: FILE:LINE:COLUMN, words, the source line with a caret, help. */
+/* Messages on stderr: FILE:LINE:COLUMN, words, the source line with a caret, notes, help. */
 #define _POSIX_C_SOURCE 200809L
 
 #include "tool.h"
@@ -7,10 +7,13 @@
 #include <string.h>
 #include <unistd.h>
 
-#define LINE_MOST 100 /* characters of a source line that are shown */
-#define LEAD 60       /* of them before the place, where the line is cut */
+#define ROOM 72 /* columns of a source line that are shown, with what stands before them 80 */
+#define LEAD 36 /* of them before the place, where the line is cut on the left */
+#define CUT "..."
+#define NAME_MOST 200 /* characters of a file's name */
 
 static bool in_color = false, in_json = false;
+static const char *stdin_name = "<stdin>";
 
 void set_messages(const struct args *args)
 {
@@ -18,6 +21,23 @@ void set_messages(const struct args *args)
     bool can = isatty(STDERR_FILENO) && getenv("NO_COLOR") == NULL && term != NULL && strcmp(term, "dumb") != 0;
     in_color = args->color == COLOR_ALWAYS || (args->color == COLOR_AUTO && can);
     in_json = args->json_messages;
+    if (args->stdin_name != NULL)
+        stdin_name = args->stdin_name;
+}
+
+/* The form of messages about the command line itself, which may be wrong before the word that asks for it. */
+void prepare_messages(int argc, char **argv)
+{
+    for (int i = 1; i < argc && strcmp(argv[i], "--") != 0; i++) {
+        bool parted = strcmp(argv[i], "--diagnostics") == 0 && i + 1 < argc && strcmp(argv[i + 1], "json") == 0;
+        in_json = in_json || parted || strcmp(argv[i], "--diagnostics=json") == 0;
+    }
+}
+
+/* A file's name as it is shown: standard input has one of its own. */
+const char *shown_name(const char *name)
+{
+    return strcmp(name, "-") == 0 ? stdin_name : name;
 }
 
 static const char *paint(const char *code)
@@ -25,12 +45,7 @@ static const char *paint(const char *code)
     return in_color ? code : "";
 }
 
-/* A place as hands count it: lines and characters from 1; and the bytes of its line. */
-struct spot {
-    size_t line, column, start, end;
-};
-
-static struct spot spot_of(struct span source, size_t place)
+struct spot spot_of(struct span source, size_t place)
 {
     struct spot spot = {.line = 1, .column = 1, .start = 0};
     for (size_t i = 0; i < place && i < source.length; i++)
@@ -49,28 +64,67 @@ static struct spot spot_of(struct span source, size_t place)
 void say_place(struct shown *shown, const struct input *document, size_t place)
 {
     struct spot spot = spot_of(document->span, place);
-    say_bytes(shown, (struct span){(const uint8_t *)document->name, strlen(document->name)}, 200);
+    say_word(shown, document->name, NAME_MOST);
     say(shown, ":%zu:%zu", spot.line, spot.column);
 }
 
-/* How many columns shown text takes. */
-static size_t columns_of(const struct shown *shown)
+/* The end of a line that is shown: before a CR, unless the place is behind that. */
+static size_t shown_end(struct span source, struct spot spot, size_t place)
+{
+    return spot.end > place && source.bytes[spot.end - 1] == '\r' ? spot.end - 1 : spot.end;
+}
+
+/* The end of what is marked from a place on: at least a character, and no more than its line. */
+size_t marked_end(struct span source, size_t place, size_t width)
+{
+    size_t left = shown_end(source, spot_of(source, place), place) - place;
+    size_t first = character_length(source.bytes + place, left);
+    return place + (width < first ? first : width < left ? width : left);
+}
+
+/* ---- The source line, within the columns that there are. */
+
+static size_t columns_between(struct span source, size_t from, size_t to)
 {
     size_t columns = 0;
-    for (size_t i = 0; i < shown->length; i++)
-        columns += (shown->text[i] & 0xc0) != 0x80;
+    while (from < to) {
+        struct shown one = {.length = 0};
+        from += say_character(&one, (struct span){source.bytes + from, to - from});
+        columns += columns_of(one.text, one.length);
+    }
     return columns;
 }
 
-/* The offset of the character so many characters behind the start. */
-static size_t forward(struct span source, size_t start, size_t characters)
+/* The first byte that is shown: that of the line, or one behind which the place comes soon. */
+static size_t first_shown(struct span source, size_t start, size_t place, size_t end)
 {
-    while (characters > 0 && start < source.length) {
-        start++;
-        if (start == source.length || (source.bytes[start] & 0xc0) != 0x80)
-            characters--;
+    size_t before = columns_between(source, start, place);
+    size_t marked = columns_between(source, place, end);
+    if (before + (marked < LEAD ? marked : LEAD) + strlen(CUT) <= ROOM)
+        return start;
+    while (before + strlen(CUT) > LEAD) {
+        struct shown one = {.length = 0};
+        start += say_character(&one, (struct span){source.bytes + start, place - start});
+        before -= columns_of(one.text, one.length);
     }
     return start;
+}
+
+/* Says bytes up to the columns that are left, with the sign of a cut if these are too few. */
+static void say_room(struct shown *shown, struct span bytes, size_t room)
+{
+    bool whole = columns_between(bytes, 0, bytes.length) <= room;
+    for (size_t at = 0; at < bytes.length;) {
+        struct shown one = {.length = 0};
+        at += say_character(&one, (struct span){bytes.bytes + at, bytes.length - at});
+        size_t columns = columns_of(one.text, one.length);
+        if (!whole && columns + strlen(CUT) > room)
+            break;
+        say(shown, "%s", one.text);
+        room -= columns;
+    }
+    if (!whole)
+        say(shown, CUT);
 }
 
 static void put_line(size_t line, bool is_path, const char *text)
@@ -91,49 +145,73 @@ static void put_last_line(struct span source, struct spot spot)
         return;
     struct spot last = spot_of(source, end - 1);
     struct shown text = {.length = 0};
-    say_bytes(&text, (struct span){source.bytes + last.start, end - last.start}, LINE_MOST);
+    bool whole = columns_between(source, last.start, end) <= ROOM;
+    size_t start = whole ? last.start : first_shown(source, last.start, end, end);
+    say(&text, whole ? "" : CUT);
+    say_bytes(&text, (struct span){source.bytes + start, end - start}, ROOM);
     put_line(last.line, false, text.text);
 }
 
-/* The carets under the bytes from the place on, at least one. */
-static void put_carets(const struct message *message, size_t lead, size_t end)
+static void put_carets(size_t lead, size_t columns)
 {
-    struct shown marked = {.length = 0};
-    size_t left = end - message->place, first = character_length(message->source.bytes + message->place, left);
-    size_t width = message->width < first ? first : message->width < left ? message->width : left;
-    say_bytes(&marked, (struct span){message->source.bytes + message->place, width}, LINE_MOST);
-    size_t columns = columns_of(&marked);
     fprintf(stderr, "      | %*s%s^", (int)lead, "", paint("\033[1;32m"));
-    for (size_t i = 1; i < columns && i < LINE_MOST; i++)
+    for (size_t i = 1; i < columns && lead + i < ROOM; i++)
         fputc('~', stderr);
     fprintf(stderr, "%s\n", paint("\033[0m"));
 }
 
-static void put_source(const struct message *message)
+static void put_source(const struct message *message, size_t place, size_t width)
 {
     struct span source = message->source;
-    struct spot spot = spot_of(source, message->place);
-    struct shown before = {.length = 0}, text = {.length = 0};
-    size_t end = spot.end > message->place && source.bytes[spot.end - 1] == '\r' ? spot.end - 1 : spot.end;
-    size_t start = spot.start;
-    if (spot.column > LEAD && forward(source, spot.start, LINE_MOST) < end) {
-        start = forward(source, spot.start, spot.column - LEAD);
-        say(&before, "...");
-    }
-    if (message->place == source.length && spot.start == spot.end && !message->is_path)
+    struct spot spot = spot_of(source, place);
+    struct shown text = {.length = 0};
+    size_t end = shown_end(source, spot, place), marked = marked_end(source, place, width);
+    bool whole = columns_between(source, spot.start, end) <= ROOM;
+    size_t start = whole ? spot.start : first_shown(source, spot.start, place, marked);
+    if (place == source.length && spot.start == spot.end && !message->is_path)
         put_last_line(source, spot);
-    say(&text, "%s", before.text);
-    say_bytes(&before, (struct span){source.bytes + start, message->place - start}, LINE_MOST);
-    say_bytes(&text, (struct span){source.bytes + start, end - start}, LINE_MOST);
+    if (start > spot.start)
+        say(&text, CUT);
+    size_t lead = text.length + columns_between(source, start, place);
+    say_room(&text, (struct span){source.bytes + start, end - start}, ROOM - text.length);
     put_line(spot.line, message->is_path, text.text);
-    put_carets(message, columns_of(&before), end);
+    put_carets(lead, columns_between(source, place, marked));
 }
 
-static void put_text(const struct message *message)
+/* ---- Messages. */
+
+struct note *add_note(struct message *message)
+{
+    static struct note none; /* for one note too many */
+    none = (struct note){.has_place = false};
+    return message->note_count < NOTES_MOST ? &message->notes[message->note_count++] : &none;
+}
+
+struct note *add_note_at(struct message *message, size_t place, size_t width)
+{
+    struct note *note = add_note(message);
+    note->has_place = true;
+    note->place = place;
+    note->width = width;
+    return note;
+}
+
+static void put_note(const struct message *message, const struct note *note)
+{
+    bool has_place = note->has_place && message->source.bytes != NULL;
+    fprintf(stderr, "  %snote:%s ", paint("\033[1;36m"), paint("\033[0m"));
+    if (has_place)
+        fprintf(stderr, "line %zu: ", spot_of(message->source, note->place).line);
+    fprintf(stderr, "%s\n", note->words.text);
+    if (has_place)
+        put_source(message, note->place, note->width);
+}
+
+static void put_head(const struct message *message)
 {
     const char *color = message->kind[0] == 'e' ? "\033[1;31m" : message->kind[0] == 'w' ? "\033[1;35m" : "\033[1;36m";
     struct shown head = {.length = 0};
-    say_bytes(&head, (struct span){(const uint8_t *)message->name, strlen(message->name)}, 200);
+    say_word(&head, message->name, NAME_MOST);
     if (message->source.bytes != NULL) {
         struct spot spot = spot_of(message->source, message->place);
         if (!message->is_path)
@@ -145,42 +223,62 @@ static void put_text(const struct message *message)
     if (message->number != 0)
         fprintf(stderr, " [%d]", message->number);
     fputc('\n', stderr);
+}
+
+static void put_text(const struct message *message)
+{
+    put_head(message);
     if (message->source.bytes != NULL)
-        put_source(message);
+        put_source(message, message->place, message->width);
+    for (size_t i = 0; i < message->note_count; i++)
+        put_note(message, &message->notes[i]);
     if (message->help.length > 0)
         fprintf(stderr, "  help: %s\n", message->help.text);
 }
 
-static void put_member(const char *name, const char *text)
+/* Wrong usage, and files that cannot be read or written. */
+static void put_trouble(const struct message *message)
 {
-    struct printer printer = {.out = stderr};
-    fprintf(stderr, ",\"%s\":", name);
-    put_string(&printer, (struct span){(const uint8_t *)text, strlen(text)});
-}
-
-/* One line of JSON, for editors. */
-static void put_json_line(const struct message *message)
-{
-    struct shown name = {.length = 0};
-    say_bytes(&name, (struct span){(const uint8_t *)message->name, strlen(message->name)}, 200);
-    fprintf(stderr, "{\"kind\":\"%s\"", message->kind);
-    put_member("file", name.text);
-    if (message->source.bytes != NULL) {
-        struct spot spot = spot_of(message->source, message->place);
-        fprintf(stderr, ",\"line\":%zu,\"column\":%zu,\"place\":%zu", spot.line, spot.column, message->place);
-    } else
-        fputs(",\"line\":null,\"column\":null,\"place\":0", stderr);
-    fprintf(stderr, ",\"number\":%d", message->number);
-    put_member("words", message->words.text);
+    struct shown head = {.length = 0};
+    if (message->name != NULL) {
+        say_word(&head, message->name, NAME_MOST);
+        say(&head, ": ");
+    }
+    if (message->line != 0)
+        say(&head, "line %zu: ", message->line);
+    fprintf(stderr, "dzintrulo: %s%s\n", head.text, message->words.text);
     if (message->help.length > 0)
-        put_member("help", message->help.text);
-    fputs("}\n", stderr);
+        fprintf(stderr, "%s\n", message->help.text);
 }
 
 void report(const struct message *message)
 {
     if (in_json)
         put_json_line(message);
+    else if (message->is_trouble)
+        put_trouble(message);
     else
         put_text(message);
+}
+
+bool trouble_at(const char *name, size_t line, const char *what)
+{
+    struct message message = {.kind = "error", .name = shown_name(name), .is_trouble = true, .line = line};
+    say_word(&message.words, what, sizeof message.words.text);
+    report(&message);
+    return false;
+}
+
+bool trouble(const char *name, const char *what)
+{
+    return trouble_at(name, 0, what);
+}
+
+/* A word of the command line that is no file's name. */
+bool wrong_word(const char *word, const char *what)
+{
+    struct message message = {.kind = "error", .name = word, .is_no_file = true, .is_trouble = true};
+    say(&message.words, "%s", what);
+    report(&message);
+    return false;
 }

@@ -127,7 +127,7 @@ static bool add_given(struct environment *environment, const char *given)
     struct span word = {(const uint8_t *)given, strlen(given)};
     bool is_whole = strchr(given, '=') != NULL;
     bool added = is_whole ? add_text(environment, 0, word, &wrong) : add_own(environment, word, &wrong);
-    return added || trouble(given, wrong.text);
+    return added || wrong_word(given, wrong.text);
 }
 
 /* ---- Files. */

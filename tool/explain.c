@@ -8,32 +8,33 @@ static const struct entry {
     int number;
     const char *meaning, *example, *mend;
 } entries[] = {
-    {DZ_BAD_INPUT, "An input is over its size, or the names given are not allowed: at most 32,768 bytes of a file, 64 names,\n"
-                   "8,192 bytes of names and texts, all in UTF-8.",
+    {DZ_BAD_INPUT, "An input is over its size, or the names given are not allowed: at most\n"
+                   "32,768 bytes of a file, 64 names, 8,192 bytes of names and texts, all in UTF-8.",
      "a file of 40,000 bytes", "Make the file smaller, or give fewer names with -e."},
     {DZ_ILL_FORMED_UTF8, "The file is not UTF-8 text. The place is the first byte that is not.",
      "a file saved as Latin-1 with a `\302\265` in it", "Save the file as UTF-8."},
     {DZ_BYTE_NOT_ALLOWED, "A character stands where the format does not allow it.", "[1,,2]",
      "Look at what is missing before it: a value, a `=`, a comma, a new line, quotes."},
-    {DZ_UNEXPECTED_END, "The file ends inside something: quotes, `{`, `[`, `${`, or a name without a value.", "plate { min = 1",
+    {DZ_UNEXPECTED_END, "The file ends inside something: quotes, `{`, `[`, `${`, or a name without a\nvalue.", "plate { min = 1",
      "Close it."},
-    {DZ_BAD_NUMBER_OR_STRING, "A `-` is not followed by a number; or, in quotes, an escape is not one of JSON's, a `\\u` has no four\n"
-                              "hex digits, half of a surrogate pair is missing, or a control byte stands there.",
-     "path = \"C:\\shop\"", "Write `\\\\` for a backslash, or use triple quotes, which take everything as it is."},
+    {DZ_BAD_NUMBER_OR_STRING, "A `-` is not followed by a number; or, in quotes, an escape is not one of\n"
+                              "JSON's, a `\\u` has no four hex digits, half of a surrogate pair is missing, or\n"
+                              "a control byte stands there.",
+     "path = \"C:\\shop\"", "Write `\\\\` for a backslash, or use triple quotes, which take everything as it\nis."},
     {DZ_INCLUDE, "`include` is not read yet.", "include \"shop.conf\"",
      "Put the settings into the file. A setting of this name is written \"include\"."},
     {DZ_BAD_PATH, "A name is empty or has an empty part, or a `${..}` stands in a name.", "a..b = 1",
      "Give the part a name. An empty name is written in quotes, as \"\"."},
-    {DZ_OVER_LIMIT, "There is one too many of something: at most 32 levels, 2,048 items, 256 values with `${..}`, 16 parts in\na name.",
+    {DZ_OVER_LIMIT, "There is one too many of something: at most 32 levels, 2,048 items, 256 values\nwith `${..}`, 16 parts in a name.",
      "a.b.c.d.e.f.g.h.i.j.k.l.m.n.o.p.q = 1", "Make it smaller: fewer levels, fewer items, shorter names."},
-    {DZ_UNDEFINED, "Nothing sets a name that a `${..}` requires: not the file, and not the names given with -e.", "plate.min = 102 ${unit}",
+    {DZ_UNDEFINED, "Nothing sets a name that a `${..}` requires: not the file, and not the names\ngiven with -e.", "plate.min = 102 ${unit}",
      "Set the name in the file, or give it with -e NAME=TEXT."},
     {DZ_CIRCULAR, "A value is needed to work out itself.", "a = ${b}\n    b = ${a}", "Break the loop: one of the values has to be written out."},
     {DZ_MIXED_KINDS, "Text, a list `[..]` and a group `{..}` cannot be one value.", "a = [1] 5",
      "A comma or a new line may be missing between two values."},
-    {DZ_OVER_BUDGET, "More values with `${..}` are needed than --budget allows. With 256, the default, this cannot come.",
+    {DZ_OVER_BUDGET, "More values with `${..}` are needed than --budget allows. With 256, the default,\nthis cannot come.",
      "dzintrulo resolve --budget 0 FILE, with `b = ${a}` in FILE", "Give a larger budget."},
-    {DZ_TOO_LARGE, "A value is too large: at most 16,384 bytes of records, 16,384 of text, 32 levels.",
+    {DZ_TOO_LARGE, "A value is too large: at most 16,384 bytes of records, 16,384 of text, 32\nlevels.",
      "a list that is joined with itself again and again", "Repeat less: each `${..}` copies what it names."},
     {DZ_NO_ROOM, "The sheet is too large: at most 32,768 bytes each of trail, table and text.",
      "many values that each copy a long list", "Repeat less: each `${..}` copies what it names."},
@@ -41,7 +42,7 @@ static const struct entry {
     {DZ_NOT_FOUND, "No setting has this name.", "dzintrulo get FILE plate.mid", "The help lists the names that there are."},
     {DZ_NOT_ACCEPTED, "The sheet is not one of this file with these names given, or it was changed.",
      "dzintrulo check FILE SHEET, after FILE was edited", "Make the sheet again, with the same -e names."},
-    {DZ_MALFORMED_LENGTH, "The value is no length. A length is a number without exponent, then mm, um or in.", "plate.min = 5 cm",
+    {DZ_MALFORMED_LENGTH, "The value is no length. A length is a number without exponent, then mm, um or\nin.", "plate.min = 5 cm",
      "Write it as 2.6 mm, 2600 um or 0.1 in."},
     {DZ_BARE_NUMBER, "The value is a number without its unit, which is never taken for a length.", "plate.min = 102", "Write of what: 102 um, 102 mm."},
     {DZ_MINUS_SIGN, "A length has no minus sign, not even before 0.", "plate.min = -1 mm", "Leave it out."},

@@ -41,6 +41,7 @@ const struct option options[] = {
      "lines NAME=TEXT; those that are empty or begin" NEXT_LINE "with # are passed over"},
     {COLOR, 0, "color", ALL, "WHEN", "colour messages: auto, always, never"},
     {DIAGNOSTICS, 0, "diagnostics", ALL, "FORM", "messages as text, or as json: a line for each"},
+    {STDIN_NAME, 0, "stdin-name", ALL, "NAME", "what messages call standard input"},
     {HELP, 'h', "help", ALL, NULL, "commands and options, or those of the command"},
     {HELP, 0, NULL, 0, NULL, NULL},
 };

@@ -39,6 +39,7 @@ int main(int argc, char **argv)
     static char buffer[1 << 21]; /* holds what any file comes to: a full disk is noticed when all is done */
     setvbuf(stdout, buffer, _IOFBF, sizeof buffer);
     signal(SIGXFSZ, SIG_IGN); /* a file over the size that is allowed is an error like a full disk */
+    prepare_messages(argc, argv);
     if (dz_version_number() != DZINTRULO_VERSION_NUMBER) {
         trouble("libdzintrulo.a", dz_version());
         return TROUBLE;

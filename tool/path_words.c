@@ -27,22 +27,37 @@ static void say_members(struct shown *shown, const uint8_t *value, const uint8_t
         say(shown, "no settings");
 }
 
-/* Lists the members of the longest path before a dot that names an object, or else those of the root. */
+/* What a shorter path names, in which the rest of the path was sought. */
+static void say_shorter(struct shown *shown, struct span path, const uint8_t *value, const uint8_t *text)
+{
+    say(shown, "`");
+    say_bytes(shown, path, 60);
+    if (dz_kind(value) == DZ_KIND_OBJECT) {
+        say(shown, "` has: ");
+        say_members(shown, value, text);
+        return;
+    }
+    say(shown, "` is ");
+    say_value(shown, value, text);
+    say(shown, dz_kind(value) == DZ_KIND_ARRAY ? ", and its elements have no names: the path `" : ", and has no names in it");
+    if (dz_kind(value) == DZ_KIND_ARRAY) {
+        say_bytes(shown, path, 60);
+        say(shown, "` prints all of it");
+    }
+}
+
+/* What the longest path before a dot names, or else the members of the root. */
 static void say_others(struct shown *shown, const struct dz_sheet *sheet, const char *path)
 {
     for (size_t length = strlen(path); length > 0; length--) {
         if (path[length - 1] != '.')
             continue;
-        uint64_t answer = dz_look_up(sheet->table, sheet->table_length, sheet->text, sheet->text_length,
-                                     (const uint8_t *)path, length - 1);
-        const uint8_t *value = sheet->table + dz_look_up_offset(answer);
-        if (!dz_look_up_found(answer) || dz_kind(value) != DZ_KIND_OBJECT)
-            continue;
-        say(shown, "`");
-        say_bytes(shown, (struct span){(const uint8_t *)path, length - 1}, 60);
-        say(shown, "` has: ");
-        say_members(shown, value, sheet->text);
-        return;
+        struct span shorter = {(const uint8_t *)path, length - 1};
+        uint64_t answer = dz_look_up(sheet->table, sheet->table_length, sheet->text, sheet->text_length, shorter.bytes, shorter.length);
+        if (dz_look_up_found(answer)) {
+            say_shorter(shown, shorter, sheet->table + dz_look_up_offset(answer), sheet->text);
+            return;
+        }
     }
     if (dz_kind(sheet->table) == DZ_KIND_OBJECT) {
         say(shown, "there are: ");
@@ -56,6 +71,7 @@ static void not_found_words(struct message *message, const struct dz_sheet *shee
     say(&message->words, "nothing has the name `");
     say_bytes(&message->words, span_of(path), 60);
     say(&message->words, "`");
+    note_near(message, span_of(path), sheet->table, sheet->text);
     say_others(&message->help, sheet, path);
 }
 
@@ -73,6 +89,7 @@ static void over_words(struct message *message, const struct dz_sheet *sheet, co
             return;
         }
     message->name = "path";
+    message->is_no_file = true;
     say(&message->words, "the path has ");
     say_count(&message->words, strlen(path));
     say(&message->words, " bytes, and at most 1,024 are read");
@@ -90,6 +107,7 @@ static void path_byte_words(struct message *message)
 static void path_words(struct message *message, int number)
 {
     message->name = "path";
+    message->is_no_file = true;
     switch (number) {
     case DZ_ILL_FORMED_UTF8: say(&message->words, "byte %02X is not UTF-8 text", message->source.bytes[message->place]); break;
     case DZ_BYTE_NOT_ALLOWED: path_byte_words(message); break;

@@ -161,7 +161,7 @@ static bool is_plain(struct span name)
     return name.length > 0;
 }
 
-static void unset_words(struct message *message)
+static void unset_words(struct message *message, const struct job *job)
 {
     size_t end = substitution_end(message);
     message->width = end - message->place;
@@ -174,10 +174,11 @@ static void unset_words(struct message *message)
         say(&message->help, "set it in the file, or give it with -e NAME=TEXT");
         return;
     }
+    note_near_setting(message, job, name);
     say(&message->help, "set `");
     say_bytes(&message->help, name, 60);
     say(&message->help, "` in ");
-    say_bytes(&message->help, (struct span){(const uint8_t *)message->name, strlen(message->name)}, 200);
+    say_word(&message->help, message->name, 200);
     say(&message->help, ", or give it with -e ");
     say_bytes(&message->help, name, 60);
     say(&message->help, "=TEXT");
@@ -225,7 +226,7 @@ static void plain_words(struct message *message, const struct job *job, int numb
         say(&message->help, "a setting of this name is written `\"include\"`");
         break;
     case DZ_OVER_LIMIT:
-        say(&message->words, "one too many: at most 32 levels, 2,048 items, 256 values with `${..}`, 16 parts in a name");
+        say(&message->words, "%s", limit_words(job, message->place));
         break;
     case DZ_MIXED_KINDS:
         say(&message->words, "this is of another kind than what stands before it in the same value (text, list `[..]`, group `{..}`)");
@@ -246,7 +247,7 @@ void choose_words(struct message *message, const struct job *job, int number)
     case DZ_UNEXPECTED_END: end_words(message, job); break;
     case DZ_BAD_NUMBER_OR_STRING: string_words(message); break;
     case DZ_BAD_PATH: name_words(message); break;
-    case DZ_UNDEFINED: unset_words(message); break;
+    case DZ_UNDEFINED: unset_words(message, job); break;
     case DZ_CIRCULAR: loop_words(message, job); break;
     case DZ_TOO_LARGE:
         size_words(message, job, "a value is too large: at most 16,384 bytes of records, 16,384 of text, 32 levels");

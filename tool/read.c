@@ -12,23 +12,6 @@ static bool is_stdin(const char *name)
     return strcmp(name, "-") == 0;
 }
 
-/* What is wrong in a line of a file, or with the file if the line is 0. */
-bool trouble_at(const char *name, size_t line, const char *what)
-{
-    struct shown shown = {.length = 0};
-    const char *seen = is_stdin(name) ? "<stdin>" : name[0] == '\0' ? "''" : name;
-    say_bytes(&shown, (struct span){(const uint8_t *)seen, strlen(seen)}, 200);
-    if (line > 0)
-        say(&shown, ": line %zu", line);
-    fprintf(stderr, "dzintrulo: %s: %s\n", shown.text, what);
-    return false;
-}
-
-bool trouble(const char *name, const char *what)
-{
-    return trouble_at(name, 0, what);
-}
-
 /* Opens a file, or standard input for `-`, once. */
 static FILE *open_input(const char *name)
 {
@@ -79,7 +62,7 @@ bool read_input(const char *name, struct input *input)
     FILE *file = open_input(name);
     if (file == NULL)
         return false;
-    input->name = is_stdin(name) ? "<stdin>" : name;
+    input->name = shown_name(name);
     bool read = fill(file, buffers[used++], input);
     fclose(file);
     return read;

@@ -29,6 +29,7 @@ enum status run_resolve(const struct args *args)
     resolve(&job, &result);
     if (dz_number(result.answer) != DZ_OK)
         return refuse(&job, result.answer);
+    warn_of(&job, &result);
     if (args->output != NULL)
         return write_sheet(&job, &result, args->output);
     print_table(args, &result.sheet);

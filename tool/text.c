@@ -3,6 +3,23 @@
 
 #include <string.h>
 
+static bool is_tail(uint8_t byte)
+{
+    return (byte & 0xc0) == 0x80;
+}
+
+/* Leaves out the last character if only a part of it did fit. */
+static void drop_part(struct shown *shown)
+{
+    size_t start = shown->length;
+    while (start > 0 && is_tail((uint8_t)shown->text[start - 1]))
+        start--;
+    start -= start > 0 ? 1 : 0;
+    if (character_length((const uint8_t *)shown->text + start, shown->length - start) != shown->length - start)
+        shown->length = start;
+    shown->text[shown->length] = '\0';
+}
+
 void say(struct shown *shown, const char *format, ...)
 {
     size_t room = sizeof shown->text - shown->length;
@@ -10,13 +27,12 @@ void say(struct shown *shown, const char *format, ...)
     va_start(values, format);
     int length = vsnprintf(shown->text + shown->length, room, format, values);
     va_end(values);
-    if (length > 0)
-        shown->length += (size_t)length < room ? (size_t)length : room - 1;
-}
-
-static bool is_tail(uint8_t byte)
-{
-    return (byte & 0xc0) == 0x80;
+    if (length > 0 && (size_t)length < room)
+        shown->length += (size_t)length;
+    else if (length > 0) {
+        shown->length += room - 1;
+        drop_part(shown);
+    }
 }
 
 /* The second byte's least and greatest, which the first one sets (Unicode, table 3-7). */
@@ -70,9 +86,11 @@ static bool is_hidden(uint32_t character)
            (character >= 0x2028 && character <= 0x202e) || (character >= 0x2060 && character <= 0x206f) || character == 0xfeff;
 }
 
-/* One character, or one byte that begins none. */
-static void say_character(struct shown *shown, const uint8_t *here, size_t size)
+/* The character here, or one byte that begins none, as it is shown. How many bytes it has. */
+size_t say_character(struct shown *shown, struct span bytes)
 {
+    const uint8_t *here = bytes.bytes;
+    size_t size = character_length(here, bytes.length);
     if (here[0] == '\t')
         say(shown, " ");
     else if (size == 0 || here[0] < 0x20 || here[0] == 0x7f)
@@ -81,19 +99,23 @@ static void say_character(struct shown *shown, const uint8_t *here, size_t size)
         say(shown, "<U+%04X>", (unsigned)character_of(here, size));
     else
         say(shown, "%.*s", (int)size, (const char *)here);
+    return size == 0 ? 1 : size;
 }
 
 /* At most so many characters of bytes: a tab as a space, control and ill-formed bytes as <1B>, what is hidden as <U+FEFF>. */
 void say_bytes(struct shown *shown, struct span bytes, size_t most)
 {
     size_t at = 0;
-    for (size_t count = 0; at < bytes.length && count < most; count++) {
-        size_t size = character_length(bytes.bytes + at, bytes.length - at);
-        say_character(shown, bytes.bytes + at, size);
-        at += size == 0 ? 1 : size;
-    }
+    for (size_t count = 0; at < bytes.length && count < most; count++)
+        at += say_character(shown, (struct span){bytes.bytes + at, bytes.length - at});
     if (at < bytes.length)
         say(shown, "...");
+}
+
+/* A word of the command line, a name of a file. */
+void say_word(struct shown *shown, const char *word, size_t most)
+{
+    say_bytes(shown, (struct span){(const uint8_t *)word, strlen(word)}, most);
 }
 
 /* A number as it is written in text: 32,768. */

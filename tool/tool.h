@@ -31,11 +31,16 @@ struct shown {
     size_t length;
 };
 void say(struct shown *shown, const char *format, ...);
+size_t say_character(struct shown *shown, struct span bytes);
 void say_bytes(struct shown *shown, struct span bytes, size_t most);
+void say_word(struct shown *shown, const char *word, size_t most);
 void say_count(struct shown *shown, size_t number);
 size_t character_length(const uint8_t *bytes, size_t length);
 uint32_t character_of(const uint8_t *bytes, size_t size);
 bool is_utf8(struct span bytes);
+
+/* width.c */
+size_t columns_of(const char *text, size_t length);
 
 /* args.c: the command line. */
 #define NAMES_GIVEN_MAX 1024
@@ -44,7 +49,7 @@ enum color { COLOR_AUTO, COLOR_ALWAYS, COLOR_NEVER };
 struct args {
     bool ascii, compact, raw, verbose, micrometres, help, json_messages;
     enum color color;
-    const char *output, *for_file;
+    const char *output, *for_file, *stdin_name;
     uint64_t budget;
     const char *names[NAMES_GIVEN_MAX], *files[FILES_GIVEN_MAX];
     size_t name_count, file_count;
@@ -61,7 +66,7 @@ bool read_args(struct args *args, const struct command *command, int argc, char 
 enum status usage_error(const char *format, ...);
 
 /* help.c: the commands and the options, each with its words. */
-enum meaning { ASCII, COMPACT, RAW, VERBOSE, MICROMETRES, OUTPUT, FOR, BUDGET, NAME, FILE_OF_NAMES, COLOR, DIAGNOSTICS, HELP };
+enum meaning { ASCII, COMPACT, RAW, VERBOSE, MICROMETRES, OUTPUT, FOR, BUDGET, NAME, FILE_OF_NAMES, COLOR, DIAGNOSTICS, STDIN_NAME, HELP };
 struct option {
     enum meaning meaning;
     char letter; /* or 0 */
@@ -85,8 +90,6 @@ struct input {
 };
 bool read_input(const char *name, struct input *input);
 size_t read_some(const char *name, const char *shown, uint8_t *buffer, size_t most);
-bool trouble(const char *name, const char *what);
-bool trouble_at(const char *name, size_t line, const char *what);
 
 /* env.c: the environment that is lent to the library, and no other. */
 struct environment {
@@ -114,23 +117,84 @@ void resolve(const struct job *job, struct result *result);
 uint64_t check(const struct job *job, const struct dz_sheet *sheet);
 size_t begun_places(const struct job *job, size_t places[DZ_BUDGET_MAX]);
 enum open_end open_at_end(const struct job *job);
+struct draft { /* a document like the one at hand, about which the library is asked */
+    uint8_t bytes[DZ_DOCUMENT_MAX + 1];
+    size_t length;
+};
+void add_bytes_to(struct draft *draft, struct span bytes);
+void add_text_to(struct draft *draft, const char *text);
+struct job job_of(const struct job *job, const struct draft *draft);
+uint64_t ask_after(const struct job *job, size_t length, const char *behind);
+bool is_refused(uint64_t answer, int number, size_t place);
+bool is_read(uint64_t answer);
+
+/* open.c: what is open at a place of a document. */
+#define CLOSERS_SIZE (DZ_NESTING_MAX + 1)
+bool find_closers(const struct job *job, size_t length, char closers[CLOSERS_SIZE]);
+bool find_opening(const struct job *job, size_t length, const char *closers, size_t *place);
+bool find_triple(const struct job *job, size_t *place);
+bool find_root_end(const struct job *job, size_t length, size_t *place);
+bool is_outside(const struct job *job, size_t place);
 bool is_whole(const struct dz_sheet *sheet);
 
-/* diag.c: messages on stderr. */
+/* mend.c: documents as they may have been meant. */
+enum { CURLY_QUOTES, SINGLE_QUOTES, SEMICOLON, HABITS };
+struct habit {
+    const char *signs[4];
+    const char *meant; /* what stands for them in this format */
+    const char *before; /* bytes before which alone they are a mistake, or NULL */
+    const char *words; /* behind the sign */
+};
+extern const struct habit habits[HABITS];
+size_t line_start(struct span source, size_t place);
+size_t line_end(struct span source, size_t place);
+bool wants_sign(const struct job *job, size_t length);
+bool reads_on(const struct job *job, const struct draft *draft, size_t beyond);
+const char *wide_encoding(struct span source);
+size_t mend_returns(struct draft *draft, struct span source);
+const char *sign_at(const struct habit *habit, struct span source, size_t place);
+size_t mend_signs(struct draft *draft, struct span source, size_t place, const struct habit *habit);
+void put_in(struct draft *draft, struct span source, size_t place, const char *text);
+
+/* diag.c, diag_json.c: messages on stderr. */
+#define NOTES_MOST 2
+struct note { /* what else is pointed at: a likely cause, where something begins */
+    bool has_place;
+    size_t place, width;
+    struct shown words;
+};
 struct message {
-    const char *kind; /* error or note */
-    const char *name; /* what it is about: a file, a path */
+    const char *kind; /* error, warning or note */
+    const char *name; /* what it is about: a file, a path; NULL if it is the call itself */
+    bool is_no_file; /* the name is that of another input: path, environment */
     struct span source; /* where the place is; no bytes if it is nowhere */
     size_t place, width;
     bool is_path; /* the source is a path text: it has no lines */
+    bool is_trouble; /* no refusal, but wrong usage, or a file that cannot be read or written */
+    size_t line; /* of a file whose bytes are not shown, or 0 */
     int number; /* of the refusal, or 0 */
     struct shown words, help;
+    struct note notes[NOTES_MOST];
+    size_t note_count;
 };
+struct spot { /* a place as hands count it: lines and characters from 1; and the bytes of its line */
+    size_t line, column, start, end;
+};
+void prepare_messages(int argc, char **argv);
 void set_messages(const struct args *args);
+struct note *add_note(struct message *message);
+struct note *add_note_at(struct message *message, size_t place, size_t width);
 void report(const struct message *message);
+void put_json_line(const struct message *message);
+bool trouble(const char *name, const char *what);
+bool trouble_at(const char *name, size_t line, const char *what);
+bool wrong_word(const char *word, const char *what);
+const char *shown_name(const char *name);
+struct spot spot_of(struct span source, size_t place);
+size_t marked_end(struct span source, size_t place, size_t width);
 void say_place(struct shown *shown, const struct input *document, size_t place);
 
-/* words.c, place_words.c, path_words.c, differ.c, explain.c: the sentences. */
+/* words.c, place_words.c, path_words.c, cause.c, warn.c, limit.c, near.c, differ.c, explain.c: the sentences. */
 enum status refuse(const struct job *job, uint64_t answer);
 enum status refuse_check(const struct job *job, const struct input *input, const struct dz_sheet *sheet, uint64_t answer);
 enum status refuse_path(const char *name, const struct dz_sheet *sheet, const char *path, uint64_t answer);
@@ -142,6 +206,11 @@ struct view { /* a value of a whole table */
 bool same_texts(const uint8_t *one, const uint8_t *one_text, const uint8_t *other, const uint8_t *other_text);
 bool same_kind_and_text(struct view one, struct view other);
 const uint8_t *find_key(struct view object, const uint8_t *key, const uint8_t *text);
+void find_cause(struct message *message, const struct job *job);
+void warn_of(const struct job *job, const struct result *result);
+const char *limit_words(const struct job *job, size_t refused);
+void note_near(struct message *message, struct span name, const uint8_t *table, const uint8_t *text);
+void note_near_setting(struct message *message, const struct job *job, struct span name);
 void say_difference(struct shown *shown, const struct dz_sheet *file, const struct dz_sheet *sheet);
 enum status explain(const struct args *args);
 

@@ -36,8 +36,10 @@ static void input_words(struct message *message, const struct job *job, const st
     const struct environment *environment = job->environment;
     struct span name = ill_formed_name(environment);
     message->name = "environment";
+    message->is_no_file = true;
     if (job->document.size > DZ_DOCUMENT_MAX) {
         message->name = job->document.name;
+        message->is_no_file = false;
         const char *before = job->document.size_known ? "the file has " : "the file has at least ";
         say_over(message, before, job->document.size, " bytes", DZ_DOCUMENT_MAX, "are read");
     } else if (environment->names > DZ_NAMES_MAX)
@@ -50,6 +52,7 @@ static void input_words(struct message *message, const struct job *job, const st
         say(&message->words, "` is not UTF-8");
     } else {
         message->name = sheet_name;
+        message->is_no_file = false;
         input_parts(message, sheet);
     }
 }
@@ -69,8 +72,10 @@ static void refuse_document(const char *kind, const struct job *job, uint64_t an
         message.source = job->document.span;
     if (message.number == DZ_BAD_INPUT)
         input_words(&message, job, NULL, job->document.name);
-    else
+    else {
         choose_words(&message, job, message.number);
+        find_cause(&message, job);
+    }
     report(&message);
 }
 
