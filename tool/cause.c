@@ -76,7 +76,7 @@ static bool note_signs(struct message *message, const struct job *job, size_t su
 /* ---- A key without its `=`. */
 
 /* Where the key begins behind which a sign is wanted: only there the word include is refused as one. */
-static bool find_key(const struct job *job, size_t length, size_t *key)
+static bool find_bare_key(const struct job *job, size_t length, size_t *key)
 {
     struct span source = job->document.span;
     size_t start = line_start(source, length);
@@ -294,7 +294,7 @@ static void find_grammar_cause(struct message *message, const struct job *job)
         note_end(message, job, open);
         return;
     }
-    bool is_key = wants_sign(job, message->place) && find_key(job, message->place, &key) && is_key_cause(message, key);
+    bool is_key = wants_sign(job, message->place) && find_bare_key(job, message->place, &key) && is_key_cause(message, key);
     if (note_signs(message, job, is_key ? key : message->place) || (is_key && note_comma(message, job, key)))
         return;
     if (is_key)

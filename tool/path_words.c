@@ -101,7 +101,10 @@ static void path_byte_words(struct message *message)
     say(&message->words, "`");
     say_bytes(&message->words, (struct span){here, 1}, 1);
     say(&message->words, "` cannot stand in a path");
-    say(&message->help, "put the name in double quotes");
+    if (here[0] == '[')
+        say(&message->help, "elements of lists have no names: the path of a list prints all of it");
+    else
+        say(&message->help, "put the name in double quotes");
 }
 
 static void path_words(struct message *message, int number)

@@ -50,7 +50,9 @@ static const char *help_for(int byte)
         return "a name or a value is missing before it";
     if (byte == '}' || byte == ']')
         return "it closes nothing, or what stands before it is not finished";
-    if (byte > 0 && strchr("`^?!@*&\\:=+", byte) != NULL)
+    if (byte == '=' || byte == ':')
+        return "put the text in double quotes; or a comma or a new line is missing between two settings";
+    if (byte > 0 && strchr("`^?!@*&\\+", byte) != NULL)
         return "put the text in double quotes";
     return "a `=`, a comma or a new line may be missing before it";
 }
