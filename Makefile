@@ -20,7 +20,7 @@ OUT = target/tool
 FLAGS = -std=c99 -Wall -Wextra -Wpedantic -Iinclude
 HEADERS = include/dzintrulo.h include/dzintrulo_sheet.h
 SOURCES = tool/main.c tool/args.c tool/help.c tool/read.c tool/env.c tool/text.c tool/json.c tool/trace.c tool/width.c tool/diag.c \
-	tool/diag_json.c tool/ask.c tool/open.c tool/mend.c tool/cause.c tool/warn.c tool/limit.c tool/near.c tool/words.c \
+	tool/diag_json.c tool/ask.c tool/open.c tool/indent.c tool/mend.c tool/cause.c tool/warn.c tool/limit.c tool/near.c tool/words.c \
 	tool/place_words.c tool/path_words.c tool/differ.c tool/explain.c tool/sheet.c tool/resolve.c tool/source.c tool/get.c \
 	tool/diff.c tool/trail.c tool/dump.c
 

@@ -12,6 +12,11 @@ static bool is_digit(uint8_t byte)
     return byte >= '0' && byte <= '9';
 }
 
+static bool is_blank(uint8_t byte)
+{
+    return byte == ' ' || byte == '\t';
+}
+
 /* Whether the byte at the place is one of these. */
 static bool is_byte(const struct message *message, const char *bytes)
 {
@@ -145,7 +150,7 @@ static bool find_sign(const struct message *message, const struct job *job, stru
     size_t start = (size_t)(key.bytes - message->source.bytes);
     for (*at = 1; *at + 1 < key.length; ++*at) {
         uint8_t next = key.bytes[*at + 1];
-        if (key.bytes[*at] != ' ' || (!is_digit(next) && next != '-' && next != '"'))
+        if (!is_blank(key.bytes[*at]) || (!is_digit(next) && next != '-' && next != '"'))
             continue;
         draft.length = 0;
         add_bytes_to(&draft, message->source);
@@ -160,11 +165,13 @@ static void note_key(struct message *message, const struct job *job, size_t plac
 {
     struct span key = {message->source.bytes + place, key_end(message, job, place) - place};
     struct note *note = add_note_at(message, place, key.length);
-    size_t at = 0;
+    size_t at = 0, first = 0;
     say(&note->words, is_byte(message, "[") ? "a key without `=`" : "a key without `=` and a value");
     if (find_sign(message, job, key, &at)) {
+        for (first = at; is_blank(key.bytes[first - 1]);)
+            first--;
         say(&note->words, "; likely `");
-        say_bytes(&note->words, (struct span){key.bytes, at}, 40);
+        say_bytes(&note->words, (struct span){key.bytes, first}, 40);
         say(&note->words, " = ");
         say_bytes(&note->words, (struct span){key.bytes + at + 1, key.length - at - 1}, 40);
         say(&note->words, "` is meant");
@@ -271,14 +278,29 @@ static bool note_root(struct message *message, const struct job *job)
 
 /* ---- The end of the file. */
 
+/* The bracket that stays open; and the one that likely should not, which may be another. */
+static void note_unclosed(struct message *message, const struct job *job)
+{
+    char closers[CLOSERS_SIZE], closer;
+    size_t place, likely, line;
+    if (!find_closers(job, message->place, closers) || !find_opening(job, message->place, closers, &place))
+        return;
+    struct note *note = add_note_at(message, place, 1);
+    say(&note->words, "this `%c` in column %zu is not closed", message->source.bytes[place], spot_of(message->source, place).column);
+    if (!find_outdent(job, &likely, &closer, &line))
+        return;
+    if (likely == place)
+        say(&note->words, "; likely its `%c` is missing before line %zu", closer, line);
+    else
+        say(&add_note_at(message, likely, 1)->words, "likely the `%c` of this `%c` is missing before line %zu", closer,
+            message->source.bytes[likely], line);
+}
+
 static void note_end(struct message *message, const struct job *job, enum open_end open)
 {
-    char closers[CLOSERS_SIZE];
     size_t place;
-    bool is_bracket = open == OPEN_BRACE || open == OPEN_BRACKET;
-    if (is_bracket && find_closers(job, message->place, closers) && find_opening(job, message->place, closers, &place))
-        say(&add_note_at(message, place, 1)->words, "this `%c` in column %zu is not closed", message->source.bytes[place],
-            spot_of(message->source, place).column);
+    if (open == OPEN_BRACE || open == OPEN_BRACKET)
+        note_unclosed(message, job);
     else if (open == OPEN_TRIPLE && find_triple(job, &place))
         say(&add_note_at(message, place, 3)->words, "these triple quotes are not closed");
 }

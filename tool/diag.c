@@ -241,7 +241,7 @@ static void put_trouble(const struct message *message)
 {
     struct shown head = {.length = 0};
     if (message->name != NULL) {
-        say_word(&head, message->name, NAME_MOST);
+        say_word(&head, message->name[0] == '\0' ? "''" : message->name, NAME_MOST);
         say(&head, ": ");
     }
     if (message->line != 0)

@@ -128,13 +128,14 @@ uint64_t ask_after(const struct job *job, size_t length, const char *behind);
 bool is_refused(uint64_t answer, int number, size_t place);
 bool is_read(uint64_t answer);
 
-/* open.c: what is open at a place of a document. */
+/* open.c, indent.c: what is open at a place of a document. */
 #define CLOSERS_SIZE (DZ_NESTING_MAX + 1)
 bool find_closers(const struct job *job, size_t length, char closers[CLOSERS_SIZE]);
 bool find_opening(const struct job *job, size_t length, const char *closers, size_t *place);
 bool find_triple(const struct job *job, size_t *place);
 bool find_root_end(const struct job *job, size_t length, size_t *place);
 bool is_outside(const struct job *job, size_t place);
+bool find_outdent(const struct job *job, size_t *opening, char *closer, size_t *line);
 bool is_whole(const struct dz_sheet *sheet);
 
 /* mend.c: documents as they may have been meant. */
