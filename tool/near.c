@@ -142,12 +142,14 @@ void note_near(struct message *message, struct span name, const uint8_t *table, 
 
 /* ---- The names of a document in which one is missing. */
 
+#define UNSET_MOST 16 /* names that nothing sets, each of which takes one more resolution */
+
 /* Works the document out with every required `${..}` that nothing sets made optional. */
 static bool resolve_without(const struct job *job, struct draft *draft, struct result *result)
 {
     draft->length = 0;
     add_bytes_to(draft, job->document.span);
-    for (unsigned i = 0; i < DZ_BUDGET_MAX && draft->length < DZ_DOCUMENT_MAX; i++) {
+    for (int i = 0; i <= UNSET_MOST && draft->length < DZ_DOCUMENT_MAX; i++) {
         struct job changed = job_of(job, draft);
         resolve(&changed, result);
         if (dz_number(result->answer) != DZ_UNDEFINED)
