@@ -3,7 +3,7 @@
 
 #include <string.h>
 
-static void put_name(const char *name)
+static void put_key(const char *name)
 {
     fprintf(stderr, ",\"%s\":", name);
 }
@@ -11,19 +11,19 @@ static void put_name(const char *name)
 static void put_member(const char *name, const char *text)
 {
     struct printer printer = {.out = stderr};
-    put_name(name);
+    put_key(name);
     put_string(&printer, (struct span){(const uint8_t *)text, strlen(text)});
 }
 
 static void put_count(const char *name, size_t count)
 {
-    put_name(name);
+    put_key(name);
     fprintf(stderr, "%zu", count);
 }
 
 static void put_null(const char *name)
 {
-    put_name(name);
+    put_key(name);
     fputs("null", stderr);
 }
 
