@@ -2,7 +2,7 @@
 
 # The options of a command.
 _dzintrulo_options() {
-    local names='-e --env --env-file' all='--color --diagnostics -h --help'
+    local names='-e --env --env-file' all='--color --diagnostics --stdin-name -h --help'
     case $1 in
     resolve) echo "-a --ascii -c --compact -o --output --budget $names $all" ;;
     check) echo "-v --verbose $names $all" ;;
@@ -43,7 +43,7 @@ _dzintrulo_operands() {
             ended=yes
         elif [[ -n $ended || $word != -?* ]]; then
             operands+=("$word")
-        elif [[ $word =~ ^(-[a-z]*[eo]|--(env|env-file|output|for|budget|color|diagnostics))$ && ${COMP_WORDS[at + 1]-} != '=' ]]; then
+        elif [[ $word =~ ^(-[a-z]*[eo]|--(env|env-file|output|for|budget|color|diagnostics|stdin-name))$ && ${COMP_WORDS[at + 1]-} != '=' ]]; then
             at=$((at + 1)) # the word that belongs to it
         fi
     done
