@@ -1,11 +1,15 @@
-# The tool and the demo panel over the proved archive; ./dzintrulo calls this. CC, CFLAGS and LDFLAGS are honoured.
+# The tool and the demo panel over the library's archive. CC, CFLAGS and LDFLAGS are honoured.
 #
-#   make                            builds target/tool/dzintrulo, and first the archive if a crate has changed (rt, minutes)
-#   make ARCHIVE=libdzintrulo.a     takes an archive as it is: no rt is needed
+#   make                            builds target/tool/dzintrulo and panel; proves the library first if a crate has changed (rt, minutes)
+#   make prove                      proves the library: target/staticlib/libdzintrulo.a, and beside it its mark
+#   make quick                      builds target/quick/dzintrulo over a library compiled without proof (rt, seconds)
+#   make ARCHIVE=libdzintrulo.a     takes an archive as it is: no rt is needed. Without its mark beside it the tool says NOT PROVED
 #   make install PREFIX=/usr/local DESTDIR=
 #   make check                      the whole gate, ./test
+#
+# ./dzintrulo takes the proved library, or else the quick one.
 .POSIX:
-.PHONY: all lib check install uninstall clean FORCE
+.PHONY: all prove quick check install uninstall clean FORCE
 
 CC = cc
 CFLAGS = -O2
@@ -14,66 +18,80 @@ LDLIBS =
 PREFIX = /usr/local
 DESTDIR =
 
+# The archive that is linked: ARCHIVE as it is, or else what is proved here.
+ARCHIVE =
 BUILT = target/staticlib/libdzintrulo.a
-ARCHIVE = $(BUILT)
+LIBRARY = "$$(archive='$(ARCHIVE)'; printf '%s' "$${archive:-$(BUILT)}")"
 OUT = target/tool
-FLAGS = -std=c99 -Wall -Wextra -Wpedantic -Iinclude
-HEADERS = include/dzintrulo.h include/dzintrulo_sheet.h
-SOURCES = tool/main.c tool/args.c tool/help.c tool/read.c tool/env.c tool/text.c tool/json.c tool/trace.c tool/width.c tool/diag.c \
-	tool/diag_json.c tool/ask.c tool/open.c tool/indent.c tool/mend.c tool/cause.c tool/warn.c tool/limit.c tool/near.c tool/words.c \
-	tool/place_words.c tool/path_words.c tool/differ.c tool/explain.c tool/sheet.c tool/resolve.c tool/source.c tool/get.c \
-	tool/diff.c tool/trail.c tool/dump.c
+QUICK = target/quick
+FLAGS = -std=c99 -Wall -Wextra -Wpedantic -Iinclude -include $(OUT)/mark.h
+SOURCES = tool/*.c
+HEADERS = include/*.h
+
+# What install brings and uninstall takes away, each as MODE:FILE:PLACE.
+INSTALLED = 755:$(OUT)/dzintrulo:bin/dzintrulo \
+	644:include/dzintrulo.h:include/dzintrulo.h \
+	644:include/dzintrulo_sheet.h:include/dzintrulo_sheet.h \
+	644:$(OUT)/staged/libdzintrulo.a:lib/libdzintrulo.a \
+	644:$(OUT)/staged/dzintrulo.pc:lib/pkgconfig/dzintrulo.pc \
+	755:$(OUT)/libdzintrulo.so.0:lib/libdzintrulo.so.0 \
+	644:tool/dzintrulo.1:share/man/man1/dzintrulo.1 \
+	644:tool/completion/dzintrulo.bash:share/bash-completion/completions/dzintrulo \
+	644:tool/completion/_dzintrulo:share/zsh/site-functions/_dzintrulo
 
 all: $(OUT)/dzintrulo $(OUT)/panel
 
-lib: $(ARCHIVE)
+prove:
+	@tool/prove
 
-# Only rt knows what the archive is made of: the script looks whether anything is newer, and writes nothing if not.
-$(BUILT): FORCE
-	@tool/archive $(BUILT)
+quick:
+	@mkdir -p $(QUICK)
+	@tool/quick $(QUICK)/libdzintrulo.a
+	@$(MAKE) OUT=$(QUICK) ARCHIVE=$(QUICK)/libdzintrulo.a all
 
 FORCE:
 
-$(OUT)/dzintrulo: $(SOURCES) tool/tool.h $(HEADERS) $(ARCHIVE)
-	@mkdir -p $(OUT)
-	@echo 'dzintrulo: compiling the tool' >&2
-	logic=$$(LC_ALL=C tr -c '[:print:]' '\n' <$(ARCHIVE) | sed -n 's/^rattle //p' | sed -n 1p); \
-	$(CC) $(FLAGS) $(CFLAGS) -DLOGIC="\"$${logic:-logic unknown}\"" $(LDFLAGS) -o $@ $(SOURCES) $(ARCHIVE) $(LDLIBS)
+# What the programs are told of the archive. It is another text if the archive's path or content, its mark, the compiler or a flag is another,
+# and then all is compiled anew; if not, nothing is written. So dates of archives count for nothing, and their paths may have spaces.
+$(OUT)/mark.h: FORCE
+	@[ -n '$(ARCHIVE)' ] || tool/prove
+	@text=$$(tool/mark in-c $(LIBRARY) '$(CC)' '$(CFLAGS)' '$(LDFLAGS)' '$(LDLIBS)') || exit 1; \
+	if [ "$$text" != "$$(cat $@ 2>/dev/null)" ]; then \
+		{ mkdir -p $(OUT) && printf '%s\n' "$$text" >$@; } 2>/dev/null || \
+			{ echo "dzintrulo: the tool is to be built, and $$PWD/$(OUT) cannot be written" >&2; exit 1; }; \
+	fi
 
-$(OUT)/panel: panel/panel.c $(HEADERS) $(ARCHIVE)
-	@mkdir -p $(OUT)
-	$(CC) $(FLAGS) $(CFLAGS) $(LDFLAGS) -o $@ panel/panel.c $(ARCHIVE) $(LDLIBS)
+# Linked under another name first: a second call never meets half a program.
+$(OUT)/dzintrulo: $(SOURCES) tool/tool.h $(HEADERS) $(OUT)/mark.h
+	$(CC) $(FLAGS) $(CFLAGS) $(LDFLAGS) -o $@.$$$$ $(SOURCES) $(LIBRARY) $(LDLIBS) && mv $@.$$$$ $@
+
+$(OUT)/panel: panel/panel.c $(HEADERS) $(OUT)/mark.h
+	$(CC) $(FLAGS) $(CFLAGS) $(LDFLAGS) -o $@.$$$$ panel/panel.c $(LIBRARY) $(LDLIBS) && mv $@.$$$$ $@
 
 # For languages that cannot include the headers: their functions as symbols, and all of the archive.
-$(OUT)/libdzintrulo.so.0: lib/dzintrulo.c $(HEADERS) $(ARCHIVE)
-	@mkdir -p $(OUT)
-	$(CC) $(FLAGS) $(CFLAGS) -fPIC -shared -Wl,-soname,libdzintrulo.so.0 $(LDFLAGS) -o $@ lib/dzintrulo.c \
-		-Wl,--whole-archive $(ARCHIVE) -Wl,--no-whole-archive $(LDLIBS)
+$(OUT)/libdzintrulo.so.0: lib/dzintrulo.c $(HEADERS) $(OUT)/mark.h
+	$(CC) $(FLAGS) $(CFLAGS) -fPIC -shared -Wl,-soname,libdzintrulo.so.0 $(LDFLAGS) -o $@.$$$$ lib/dzintrulo.c \
+		-Wl,--whole-archive $(LIBRARY) -Wl,--no-whole-archive $(LDLIBS) && mv $@.$$$$ $@
 
 check:
 	./test
 
 install: all $(OUT)/libdzintrulo.so.0
-	mkdir -p $(DESTDIR)$(PREFIX)/bin $(DESTDIR)$(PREFIX)/include $(DESTDIR)$(PREFIX)/lib/pkgconfig $(DESTDIR)$(PREFIX)/share/man/man1
-	cp $(OUT)/dzintrulo $(DESTDIR)$(PREFIX)/bin/dzintrulo
-	cp $(HEADERS) $(DESTDIR)$(PREFIX)/include
-	cp $(ARCHIVE) $(DESTDIR)$(PREFIX)/lib/libdzintrulo.a
-	cp $(OUT)/libdzintrulo.so.0 $(DESTDIR)$(PREFIX)/lib/libdzintrulo.so.0
-	ln -sf libdzintrulo.so.0 $(DESTDIR)$(PREFIX)/lib/libdzintrulo.so
-	version=$$(sed -n 's/^#define DZINTRULO_VERSION "\(.*\)"/\1/p' include/dzintrulo.h); \
-	sed -e 's|@PREFIX@|$(PREFIX)|' -e "s|@VERSION@|$$version|" tool/dzintrulo.pc.in >$(DESTDIR)$(PREFIX)/lib/pkgconfig/dzintrulo.pc
-	cp tool/dzintrulo.1 $(DESTDIR)$(PREFIX)/share/man/man1/dzintrulo.1
-	mkdir -p $(DESTDIR)$(PREFIX)/share/bash-completion/completions $(DESTDIR)$(PREFIX)/share/zsh/site-functions
-	cp tool/completion/dzintrulo.bash $(DESTDIR)$(PREFIX)/share/bash-completion/completions/dzintrulo
-	cp tool/completion/_dzintrulo $(DESTDIR)$(PREFIX)/share/zsh/site-functions/_dzintrulo
+	@grep -q LIBRARY_KIT $(OUT)/mark.h || echo 'dzintrulo: what is installed is NOT PROVED' >&2
+	@mkdir -p $(OUT)/staged
+	@cp $(LIBRARY) $(OUT)/staged/libdzintrulo.a
+	@version=$$(sed -n 's/^#define DZINTRULO_VERSION "\(.*\)"/\1/p' include/dzintrulo.h); \
+	{ printf 'prefix=%s\n' '$(PREFIX)'; sed "s/@VERSION@/$$version/" tool/dzintrulo.pc.in; } >$(OUT)/staged/dzintrulo.pc
+	umask 022; for item in $(INSTALLED); do \
+		file=$${item#*:}; place='$(DESTDIR)$(PREFIX)'/$${item##*:}; \
+		mkdir -p "$${place%/*}" && install -m $${item%%:*} $${file%%:*} "$$place" || exit 1; \
+	done; \
+	ln -sf libdzintrulo.so.0 '$(DESTDIR)$(PREFIX)'/lib/libdzintrulo.so
 
 uninstall:
-	rm -f $(DESTDIR)$(PREFIX)/bin/dzintrulo $(DESTDIR)$(PREFIX)/include/dzintrulo.h \
-		$(DESTDIR)$(PREFIX)/include/dzintrulo_sheet.h $(DESTDIR)$(PREFIX)/lib/libdzintrulo.a \
-		$(DESTDIR)$(PREFIX)/lib/libdzintrulo.so $(DESTDIR)$(PREFIX)/lib/libdzintrulo.so.0 \
-		$(DESTDIR)$(PREFIX)/lib/pkgconfig/dzintrulo.pc $(DESTDIR)$(PREFIX)/share/man/man1/dzintrulo.1 \
-		$(DESTDIR)$(PREFIX)/share/bash-completion/completions/dzintrulo $(DESTDIR)$(PREFIX)/share/zsh/site-functions/_dzintrulo
+	for item in $(INSTALLED); do rm -f '$(DESTDIR)$(PREFIX)'/$${item##*:}; done
+	rm -f '$(DESTDIR)$(PREFIX)'/lib/libdzintrulo.so
 
-# What is proved stays: only the C programs go.
+# What is proved stays: only what is made in seconds goes.
 clean:
-	rm -rf $(OUT)
+	rm -rf $(OUT) $(QUICK)

@@ -6,10 +6,6 @@
 #include <signal.h>
 #include <string.h>
 
-#ifndef LOGIC
-#define LOGIC "unknown"
-#endif
-
 static enum status run(const struct command *command, int argc, char **argv)
 {
     static struct args args;
@@ -25,7 +21,7 @@ static enum status choose(int argc, char **argv)
     if (strcmp(name, "--help") == 0 || strcmp(name, "-h") == 0)
         return show_help();
     if (strcmp(name, "--version") == 0) {
-        printf("dzintrulo %s\nsheet file edition %d\nlibrary proved in %s\n", DZINTRULO_VERSION, DZ_SHEET_EDITION, LOGIC);
+        print_version();
         return DONE;
     }
     const struct command *command = find_command(name);

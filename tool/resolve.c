@@ -77,8 +77,8 @@ static enum status check_sheet(const struct args *args, const struct job *job)
     if (!dz_check_accepted(answer))
         return refuse_check(job, &input, &sheet, answer);
     if (args->verbose)
-        printf("%s: accepted for %s\n", input.name, job->document.name);
-    return DONE;
+        printf("%s: accepted for %s%s\n", input.name, job->document.name, unproved_words());
+    return accept_sheet(&input);
 }
 
 enum status run_check(const struct args *args)

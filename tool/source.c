@@ -23,7 +23,7 @@ static enum status open_checked(const struct args *args, struct source *source)
     if (!read_input(args->for_file, &source->job.document) || !is_document(&source->job.document))
         return TROUBLE;
     uint64_t answer = check(&source->job, &source->sheet);
-    return dz_check_accepted(answer) ? DONE : refuse_check(&source->job, &sheet, &source->sheet, answer);
+    return dz_check_accepted(answer) ? accept_sheet(&sheet) : refuse_check(&source->job, &sheet, &source->sheet, answer);
 }
 
 /* Opens what the job has read. */

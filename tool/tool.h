@@ -215,6 +215,11 @@ void note_near_setting(struct message *message, const struct job *job, struct sp
 void say_difference(struct shown *shown, const struct dz_sheet *file, const struct dz_sheet *sheet);
 enum status explain(const struct args *args);
 
+/* build.c: whether the library has the mark of a proof. */
+void print_version(void);
+const char *unproved_words(void);
+enum status accept_sheet(const struct input *sheet);
+
 /* json.c */
 struct printer {
     FILE *out;

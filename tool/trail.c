@@ -103,7 +103,7 @@ static enum status open_trail(const struct args *args, struct job *job, struct d
     if (!open_sheet(&input, sheet))
         return REFUSED;
     uint64_t answer = check(job, sheet);
-    return dz_check_accepted(answer) ? DONE : refuse_check(job, &input, sheet, answer);
+    return dz_check_accepted(answer) ? accept_sheet(&input) : refuse_check(job, &input, sheet, answer);
 }
 
 enum status run_trail(const struct args *args)

@@ -1,0 +1,41 @@
+/* Which library the tool is linked with, and whether it has the mark of a proof. */
+#include "tool.h"
+
+/* From the Makefile, by mark.h. LIBRARY_KIT and LIBRARY_COMMIT are there only if the mark beside the archive has the archive's sum. */
+#ifndef LIBRARY_SUM
+#define LIBRARY_SUM "unknown"
+#endif
+
+#ifdef LIBRARY_KIT
+enum { PROVED = 1 };
+#else
+enum { PROVED = 0 };
+#define LIBRARY_KIT ""
+#define LIBRARY_COMMIT ""
+#endif
+
+void print_version(void)
+{
+    printf("dzintrulo %s\nsheet file edition %d\n", DZINTRULO_VERSION, DZ_SHEET_EDITION);
+    if (PROVED)
+        printf("library proved with %s, commit %s\n", LIBRARY_KIT, LIBRARY_COMMIT);
+    else
+        printf("library NOT PROVED: its archive has no mark of a proof\n");
+    printf("library SHA-256 %s\n", LIBRARY_SUM);
+}
+
+/* Behind the words that a sheet is accepted. */
+const char *unproved_words(void)
+{
+    return PROVED ? "" : ", NOT PROVED";
+}
+
+/* With each yes of check: whose it is, unless it is that of a proved library. */
+enum status accept_sheet(const struct input *sheet)
+{
+    struct message message = {.kind = "warning", .name = sheet->name};
+    say(&message.words, "accepted by a library that is NOT PROVED");
+    if (!PROVED)
+        report(&message);
+    return DONE;
+}
