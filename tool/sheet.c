@@ -116,15 +116,14 @@ static const char *fill_file(const struct job *job, const struct dz_sheet *sheet
     return wrong;
 }
 
-/* An older file keeps its mode, and its owner as far as that is allowed. */
-static bool set_mode(int descriptor, const struct stat *older)
+/* An older file keeps its mode, and its owner, as far as that is allowed: on a stick of FAT the file system's own mode holds. */
+static void set_mode(int descriptor, const struct stat *older)
 {
-    mode_t mask = umask(0);
+    mode_t mask = umask(0), mode = 0666 & ~mask;
     umask(mask);
-    if (older == NULL)
-        return fchmod(descriptor, 0666 & ~mask) == 0;
-    bool kept = fchown(descriptor, older->st_uid, older->st_gid) == 0;
-    return fchmod(descriptor, older->st_mode & (kept ? 07777 : 0777)) == 0;
+    if (older != NULL)
+        mode = older->st_mode & (fchown(descriptor, older->st_uid, older->st_gid) == 0 ? 07777 : 0777);
+    fchmod(descriptor, mode);
 }
 
 static const int stops[] = {SIGHUP, SIGINT, SIGQUIT, SIGTERM};
@@ -163,7 +162,8 @@ static const char *write_beside(const struct job *job, const struct dz_sheet *sh
     int descriptor = mkstemp(beside);
     if (descriptor < 0)
         return strerror(errno);
-    FILE *file = set_mode(descriptor, older) ? fdopen(descriptor, "w+b") : NULL;
+    set_mode(descriptor, older);
+    FILE *file = fdopen(descriptor, "w+b");
     const char *wrong = file == NULL ? strerror(errno) : fill_file(job, sheet, file);
     if (wrong == NULL && is_interrupted(signals))
         wrong = "interrupted";
