@@ -48,7 +48,9 @@ static bool note_returns(struct message *message, const struct job *job)
 {
     static struct draft draft;
     size_t first = mend_returns(&draft, message->source);
-    if (first >= message->place || !reads_on(job, &draft, message->place))
+    struct job changed = job_of(job, &draft);
+    bool at_end = message->number == DZ_UNEXPECTED_END;
+    if (first >= message->place || !(at_end ? is_read(ask_after(&changed, draft.length, "")) : reads_on(job, &draft, message->place)))
         return false;
     struct note *note = add_note_at(message, first, 1);
     say(&note->words, "likely carriage returns (0D) are meant to end lines, and alone they do not");
@@ -97,6 +99,12 @@ static bool find_bare_key(const struct job *job, size_t length, size_t *key)
     return false;
 }
 
+/* Whether a comment begins with these bytes, outside of quotes. */
+static bool is_comment(struct span source, size_t at)
+{
+    return source.bytes[at] == '#' || (source.bytes[at] == '/' && at + 1 < source.length && source.bytes[at + 1] == '/');
+}
+
 /* The end of the key: before whitespace, a comment, or the place. */
 static size_t key_end(const struct message *message, const struct job *job, size_t key)
 {
@@ -104,7 +112,7 @@ static size_t key_end(const struct message *message, const struct job *job, size
     size_t end = line_end(source, key);
     end = end < message->place ? end : message->place;
     for (size_t at = key; at < end; at++)
-        if ((source.bytes[at] == '#' || source.bytes[at] == '/') && is_outside(job, at) && !is_outside(job, at + 2))
+        if (is_comment(source, at) && is_outside(job, at))
             end = at;
     while (end > key && source.bytes[end - 1] <= ' ')
         end--;
@@ -317,12 +325,22 @@ static void find_grammar_cause(struct message *message, const struct job *job)
         return;
     }
     bool is_key = wants_sign(job, message->place) && find_bare_key(job, message->place, &key) && is_key_cause(message, key);
-    if (note_signs(message, job, is_key ? key : message->place) || (is_key && note_comma(message, job, key)))
+    key = is_key ? key : message->place;
+    if ((is_key || !at_end) && note_signs(message, job, key))
+        return;
+    if (is_key && note_comma(message, job, key))
         return;
     if (is_key)
         note_key(message, job, key);
     else if (!at_end && (note_value(message, job) || note_root(message, job) || note_open(message, job)))
         message->help.length = 0;
+}
+
+/* Whether the document is refused while it is read, and not while it is worked out: then a budget of 0 is enough for it. */
+static bool is_grammar(const struct message *message, const struct job *job)
+{
+    bool may_be = message->number <= DZ_OVER_LIMIT || message->number == DZ_MIXED_KINDS;
+    return may_be && is_refused(ask_after(job, job->document.span.length, ""), message->number, message->place);
 }
 
 /* Adds a note to a refusal that has a place in a document. */
@@ -331,8 +349,7 @@ void find_cause(struct message *message, const struct job *job)
     int number = message->number;
     if (message->source.bytes == NULL || note_encoding(message) || number == DZ_ILL_FORMED_UTF8)
         return;
-    bool while_read = number <= DZ_OVER_LIMIT || number == DZ_MIXED_KINDS;
-    if (while_read && note_returns(message, job))
+    if (!is_grammar(message, job) || note_returns(message, job))
         return;
     if (number == DZ_BYTE_NOT_ALLOWED || number == DZ_UNEXPECTED_END || number == DZ_MIXED_KINDS)
         find_grammar_cause(message, job);
