@@ -193,22 +193,46 @@ static bool is_key_cause(const struct message *message, size_t key)
     return message->place == message->source.length || line_end(message->source, key) < message->place || is_byte(message, ",}][");
 }
 
-/* `min =`, and the next line is read as its value: with a value before that line the library reads on. */
+/* Whether a sign was read behind the first bytes, and its value is to come: without one, nothing can be closed. */
+static bool wants_value(const struct job *job, size_t length)
+{
+    static struct draft draft;
+    char closers[CLOSERS_SIZE];
+    draft.length = 0;
+    add_bytes_to(&draft, (struct span){job->document.span.bytes, length});
+    add_text_to(&draft, "\n0");
+    struct job changed = job_of(job, &draft);
+    return !find_closers(job, length, closers) && find_closers(&changed, draft.length, closers);
+}
+
+/* The last `=` or `:` before the place. */
+static bool find_last_sign(const struct job *job, size_t place, size_t *sign)
+{
+    for (size_t at = place; at > 0; at--) {
+        uint8_t byte = job->document.span.bytes[at - 1];
+        if ((byte == '=' || byte == ':') && is_outside(job, at - 1)) {
+            *sign = at - 1;
+            return true;
+        }
+    }
+    return false;
+}
+
+/* `min =`: no value, or the next line is read as it, and with a value before that line the library reads on. */
 static bool note_value(struct message *message, const struct job *job)
 {
     static struct draft draft;
     struct span source = message->source;
-    size_t start = line_start(source, message->place);
+    size_t start = line_start(source, message->place), sign;
+    if (wants_value(job, message->place) && find_last_sign(job, message->place, &sign)) {
+        say(&add_note_at(message, sign, 1)->words, "a value is missing behind this `%c`", source.bytes[sign]);
+        return true;
+    }
     put_in(&draft, source, start, "0\n");
-    if (!is_byte(message, "=:") || !reads_on(job, &draft, line_end(source, message->place) + 2))
+    if (!wants_value(job, start) || !reads_on(job, &draft, message->place + 2) || !find_last_sign(job, start, &sign))
         return false;
-    for (size_t at = start; at > 0; at--)
-        if ((source.bytes[at - 1] == '=' || source.bytes[at - 1] == ':') && is_outside(job, at - 1)) {
-            say(&add_note_at(message, at - 1, 1)->words, "likely a value is missing here: the next line is read as it");
-            message->help.length = 0;
-            return true;
-        }
-    return false;
+    say(&add_note_at(message, sign, 1)->words, "likely a value is missing here: the next line is read as it");
+    return true;
 }
 
 /* ---- Groups and lists. */
@@ -240,13 +264,16 @@ static bool note_bracket(struct message *message, const struct job *job, const c
     return false;
 }
 
-/* A bracket where nothing is open. */
-static bool say_stray(struct message *message)
+/* A bracket where nothing is open: one before it may have closed too much. */
+static bool note_stray(struct message *message, const struct job *job)
 {
-    if (is_byte(message, "}]")) {
-        message->help.length = 0;
-        say(&message->help, "it closes nothing: no `{` and no `[` is open here");
-    }
+    size_t place;
+    if (!is_byte(message, "}]"))
+        return false;
+    message->help.length = 0;
+    say(&message->help, "it closes nothing: no `{` and no `[` is open here");
+    if (find_surplus(job, &place))
+        say(&add_note_at(message, place, 1)->words, "likely this `%c` is one too many", message->source.bytes[place]);
     return false;
 }
 
@@ -259,7 +286,7 @@ static bool note_open(struct message *message, const struct job *job)
     if (!find_closers(job, message->place, closers))
         return false;
     if (closers[0] == '\0')
-        return say_stray(message);
+        return note_stray(message, job);
     if (!find_opening(job, message->place, closers, &opening))
         return false;
     bool is_list = closers[0] == ']';
@@ -295,7 +322,7 @@ static void note_unclosed(struct message *message, const struct job *job)
         return;
     struct note *note = add_note_at(message, place, 1);
     say(&note->words, "this `%c` in column %zu is not closed", message->source.bytes[place], spot_of(message->source, place).column);
-    if (!find_outdent(job, &likely, &closer, &line))
+    if (!find_unclosed(job, &likely, &closer, &line))
         return;
     if (likely == place)
         say(&note->words, "; likely its `%c` is missing before line %zu", closer, line);
@@ -332,7 +359,7 @@ static void find_grammar_cause(struct message *message, const struct job *job)
         return;
     if (is_key)
         note_key(message, job, key);
-    else if (!at_end && (note_value(message, job) || note_root(message, job) || note_open(message, job)))
+    else if (note_value(message, job) || (!at_end && (note_root(message, job) || note_open(message, job))))
         message->help.length = 0;
 }
 

@@ -135,7 +135,8 @@ bool find_opening(const struct job *job, size_t length, const char *closers, siz
 bool find_triple(const struct job *job, size_t *place);
 bool find_root_end(const struct job *job, size_t length, size_t *place);
 bool is_outside(const struct job *job, size_t place);
-bool find_outdent(const struct job *job, size_t *opening, char *closer, size_t *line);
+bool find_unclosed(const struct job *job, size_t *opening, char *closer, size_t *line);
+bool find_surplus(const struct job *job, size_t *place);
 bool is_whole(const struct dz_sheet *sheet);
 
 /* mend.c: documents as they may have been meant. */
