@@ -57,6 +57,7 @@ static enum status check_file(const struct args *args, const struct job *job)
     resolve(job, &result);
     if (dz_number(result.answer) != DZ_OK)
         return refuse(job, result.answer);
+    warn_of(job, &result);
     size_t count = count_settings(result.table);
     if (args->verbose && dz_kind(result.table) == DZ_KIND_OBJECT)
         printf("%s: good, %zu setting%s\n", job->document.name, count, count == 1 ? "" : "s");

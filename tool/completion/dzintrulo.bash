@@ -27,7 +27,7 @@ _dzintrulo_word() {
     --color) mapfile -t COMPREPLY < <(compgen -W 'auto always never' -- "$2") ;;
     --diagnostics) mapfile -t COMPREPLY < <(compgen -W 'text json' -- "$2") ;;
     --budget) compopt +o default ;;
-    -o | --output | --for | --env-file) ;; # files, by default
+    -o | --output | --for | --env-file | --stdin-name) ;; # files, by default
     *) return 1 ;;
     esac
 }
