@@ -28,13 +28,14 @@ FLAGS = -std=c99 -Wall -Wextra -Wpedantic -Iinclude -include $(OUT)/mark.h
 SOURCES = tool/*.c
 HEADERS = include/*.h
 
-# What install brings and uninstall takes away, each as MODE:FILE:PLACE.
+# What install brings and uninstall takes away, each as MODE:FILE:PLACE; link:NAME:PLACE is a symbolic link to NAME.
 INSTALLED = 755:$(OUT)/dzintrulo:bin/dzintrulo \
 	644:include/dzintrulo.h:include/dzintrulo.h \
 	644:include/dzintrulo_sheet.h:include/dzintrulo_sheet.h \
 	644:$(OUT)/staged/libdzintrulo.a:lib/libdzintrulo.a \
 	644:$(OUT)/staged/dzintrulo.pc:lib/pkgconfig/dzintrulo.pc \
 	755:$(OUT)/libdzintrulo.so.0:lib/libdzintrulo.so.0 \
+	link:libdzintrulo.so.0:lib/libdzintrulo.so \
 	644:tool/dzintrulo.1:share/man/man1/dzintrulo.1 \
 	644:tool/completion/dzintrulo.bash:share/bash-completion/completions/dzintrulo \
 	644:tool/completion/_dzintrulo:share/zsh/site-functions/_dzintrulo
@@ -83,14 +84,13 @@ install: all $(OUT)/libdzintrulo.so.0
 	@version=$$(sed -n 's/^#define DZINTRULO_VERSION "\(.*\)"/\1/p' include/dzintrulo.h); \
 	{ printf 'prefix=%s\n' '$(PREFIX)'; sed "s/@VERSION@/$$version/" tool/dzintrulo.pc.in; } >$(OUT)/staged/dzintrulo.pc
 	umask 022; for item in $(INSTALLED); do \
-		file=$${item#*:}; place='$(DESTDIR)$(PREFIX)'/$${item##*:}; \
-		mkdir -p "$${place%/*}" && install -m $${item%%:*} $${file%%:*} "$$place" || exit 1; \
-	done; \
-	ln -sf libdzintrulo.so.0 '$(DESTDIR)$(PREFIX)'/lib/libdzintrulo.so
+		mode=$${item%%:*}; file=$${item#*:}; file=$${file%%:*}; place='$(DESTDIR)$(PREFIX)'/$${item##*:}; \
+		mkdir -p "$${place%/*}" || exit 1; \
+		if [ $$mode = link ]; then ln -sf $$file "$$place"; else install -m $$mode $$file "$$place"; fi || exit 1; \
+	done
 
 uninstall:
 	for item in $(INSTALLED); do rm -f '$(DESTDIR)$(PREFIX)'/$${item##*:}; done
-	rm -f '$(DESTDIR)$(PREFIX)'/lib/libdzintrulo.so
 
 # What is proved stays: only what is made in seconds goes.
 clean:

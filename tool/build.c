@@ -24,18 +24,28 @@ void print_version(void)
     printf("library SHA-256 %s\n", LIBRARY_SUM);
 }
 
-/* Behind the words that a sheet is accepted. */
+/* Behind the words that a sheet is accepted or a file good. */
 const char *unproved_words(void)
 {
     return PROVED ? "" : ", NOT PROVED";
 }
 
 /* With each yes of check: whose it is, unless it is that of a proved library. */
-enum status accept_sheet(const struct input *sheet)
+static enum status say_whose(const struct input *input, const char *found)
 {
-    struct message message = {.kind = "warning", .name = sheet->name};
-    say(&message.words, "accepted by a library that is NOT PROVED");
+    struct message message = {.kind = "warning", .name = input->name};
+    say(&message.words, "%s by a library that is NOT PROVED", found);
     if (!PROVED)
         report(&message);
     return DONE;
+}
+
+enum status accept_sheet(const struct input *sheet)
+{
+    return say_whose(sheet, "accepted");
+}
+
+enum status approve_file(const struct input *file)
+{
+    return say_whose(file, "found good");
 }

@@ -60,10 +60,10 @@ static enum status check_file(const struct args *args, const struct job *job)
     warn_of(job, &result);
     size_t count = count_settings(result.table);
     if (args->verbose && dz_kind(result.table) == DZ_KIND_OBJECT)
-        printf("%s: good, %zu setting%s\n", job->document.name, count, count == 1 ? "" : "s");
+        printf("%s: good, %zu setting%s%s\n", job->document.name, count, count == 1 ? "" : "s", unproved_words());
     else if (args->verbose)
-        printf("%s: good, a list of %zu\n", job->document.name, dz_member_count(result.table));
-    return DONE;
+        printf("%s: good, a list of %zu%s\n", job->document.name, dz_member_count(result.table), unproved_words());
+    return approve_file(&job->document);
 }
 
 static enum status check_sheet(const struct args *args, const struct job *job)

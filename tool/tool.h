@@ -220,6 +220,7 @@ enum status explain(const struct args *args);
 void print_version(void);
 const char *unproved_words(void);
 enum status accept_sheet(const struct input *sheet);
+enum status approve_file(const struct input *file);
 
 /* json.c */
 struct printer {
