@@ -2,17 +2,19 @@
 use mathlib.Core.Path.{_≡_, refl, sym, _∙_, ap}
 use mathlib.Core.Bool.{Bool, true, false, _&&_}
 use mathlib.Core.List.{List, [], _∷_}
-use Prim.Native.Nat.{ℕ, zero, suc, _+_, _≤_, _<_}
+use Prim.Native.Nat.{ℕ, zero, suc, _+_, _-_, _≤_, _<_}
 use native.Mathlib.Omega.{arith}
 use lib.ListN.{length, getD, List·getD-eq-default}
-use lib.Dec.{ltb, leb}
-use borrow.Author.Tests.{lt-ltb, le-ltb, le-leb, lt-leb, eq-eqb, ne-eqb}
+use lib.Dec.{ltb, leb, eqb}
+use borrow.Author.Tests.{lt-ltb, le-ltb, le-leb, lt-leb, eq-eqb, ne-eqb, ltb-true, ltb-false, eqb-true}
 use Rattle.rules.specs.Sizes.{maxDocument}
-use Rattle.rules.specs.Bytes.{byteAt, skip}
+use Rattle.rules.specs.Bytes.{byteAt}
 use Rattle.text_chars.specs.Cursor.{ByteIs, doc, illAt}
 use Rattle.rules.specs.Utf8.{continues, lowest, highest, promised, continued, sequenceAt, wellFormedEnd, illFormed}
 use Rattle.theory_text.specs.Skips.{skip-on, skip-off}
 use Rattle.theory_text.specs.Places.{sequence-past, sequence-moves}
+use Rattle.text_chars.specs.Clash.{clash}
+use Rattle.text_chars.specs.WellFormed.{blockSize, NotAsciiIs, AllAscii, BlockIs, formedFrom, WellFormedIs}
 use Rattle.text_chars.specs.declared.Ill.{Ill}
 
 -- inside a list the default does not matter
@@ -214,33 +216,105 @@ module _ (s : List ℕ) (at : ℕ) {lead n : ℕ} (e : lead ≡ byteAt s at) (p 
             pub sequence-4 : {g : Bool} → g ≡ continues fourth → g ≡ true → 4 ≡ sequenceAt s at
             sequence-4 j z = sym (rest 2 true four (last true (sym j ∙ z)))
 
+-- ---- a block of ASCII
+
+-- of so many bytes so many are not ASCII
+pub record BlockLoop (s : List ℕ) (at count i : ℕ) : Type 0 where
+  pub few : count ≤ i
+  pub near : i ≤ blockSize
+  pub all : count ≡ 0 → AllAscii s at i
+
+module _ {s : List ℕ} {at : ℕ} where
+  pub block-none : BlockIs s at false
+  block-none = record { fits = λ e. clash (cc); all = λ e. clash (cc) }
+
+  pub block-start : BlockLoop s at 0 0
+  block-start = record { few = omega arith; near = omega arith; all = λ e j k. absurd (omega arith) }
+
+  module _ {count i : ℕ} (I : BlockLoop s at count i) where
+    pub block-turn : {r : ℕ} → blockSize ≤ length s - at → i < blockSize → NotAsciiIs (getD s (at + i) 0) r → BlockLoop s at (count + r) (i + 1)
+    block-turn {r} h k b = record {
+      few = omega (arith, I .few, b .small);
+      near = omega arith;
+      all = λ e j l. at-index e j l (ltb j i) refl;
+    }
+      where
+        at-index : count + r ≡ 0 → (j : ℕ) → j < i + 1 → (t : Bool) → ltb j i ≡ t → byteAt s (at + j) < 128
+        at-index e j l true f = I .all (omega arith) j (ltb-true j i f)
+        at-index e j l false f =
+            let last : i ≡ j = omega (arith, ltb-false j i f) in
+            let here : byteAt s (at + i) < 128 = rw (getD-any s (at + i) 0 256 (omega arith)) at (b .ascii (omega arith)) in
+            rw last at here
+
+    pub block-done : blockSize ≤ length s - at → blockSize ≤ i → BlockIs s at (eqb count 0)
+    block-done f h = record { fits = λ _. omega arith; all = λ e j k. I .all (eqb-true count 0 e) j (omega arith) }
+
+    pub block-small : {r : ℕ} {b : ℕ} → i < blockSize → NotAsciiIs b r → count + r < 256
+    block-small k b = omega (arith, I .few, b .small)
+
+pub ruleset blocks = (arith, block-none, block-start, block-turn, block-done, block-small)
+
+-- ---- how far a text is well-formed
+
+module _ (s : List ℕ) where
+  one-more : (at : ℕ) → (sequenceAt s at ≡ 0 → ⊥) → formedFrom s at ≡ formedFrom s (at + sequenceAt s at)
+  unfolding formedFrom
+  one-more at z =
+      skip-on _ _ (length s) (sequence-moves s) (length s) at (omega arith) (lt-ltb 0 (sequenceAt s at) (omega (arith, z)))
+
+  ascii-sequence : (at : ℕ) → byteAt s at < 128 → sequenceAt s at ≡ 1
+  unfolding sequenceAt promised
+  ascii-sequence at h = rw (le-leb (byteAt s at) 127 (omega arith), promised, sequenceAt)
+
+  ascii-more : (at n : ℕ) → AllAscii s at n → formedFrom s at ≡ formedFrom s (at + n)
+  ascii-more at zero all = let e : at + 0 ≡ at = omega arith in rw e
+  ascii-more at (suc n) all =
+      let one : sequenceAt s (at + n) ≡ 1 = ascii-sequence (at + n) (all n (omega arith)) in
+      let e : at + n + 1 ≡ at + suc n = omega arith in
+      ascii-more at n (λ i l. all i (omega arith)) ∙ one-more (at + n) (λ z. omega arith) ∙ rw (one, e)
+
+module _ {s : List ℕ} {at : ℕ} where
+  pub well-block : {f : Bool} → BlockIs s at f → f ≡ true → WellFormedIs s at blockSize
+  well-block b e = record {
+    none = λ z. absurd (omega arith);
+    some = λ _ _. ascii-more s at blockSize (b .all e);
+    near = λ _. omega (arith, b .fits e);
+    small = omega arith;
+  }
+
+  pub well-sequence : {n : ℕ} → n ≡ sequenceAt s at → n ≤ 4 → WellFormedIs s at n
+  well-sequence e l = record {
+    none = λ z. sym e ∙ z;
+    some = λ z _. one-more s at (λ q. z (e ∙ q)) ∙ rw (← e);
+    near = λ h. omega arith;
+    small = omega arith;
+  }
+
+pub ruleset wells = (arith, well-block, well-sequence)
+
 -- ---- the loop over a whole text
 
 -- what the loop keeps: the first ill-formed place is still to come, and the place is not far past the end
 pub record Formed (s : List ℕ) (at : ℕ) : Type 0 where
   pub near : at ≤ 32772
-  pub still : wellFormedEnd s ≡ skip (λ p. ltb 0 (sequenceAt s p)) (λ p. p + sequenceAt s p) (length s) at
+  pub still : wellFormedEnd s ≡ formedFrom s at
 
 pub formed-start : {s : List ℕ} → Formed s 0
-unfolding wellFormedEnd
+unfolding wellFormedEnd formedFrom
 formed-start {s} = record { near = omega arith; still = refl }
 
 module _ {s : List ℕ} {at : ℕ} (f : Formed s at) where
-  pub formed-more : {n : ℕ} → at < length s → length s ≤ maxDocument → n ≡ sequenceAt s at → n ≤ 4 → (n ≡ 0 → ⊥) → Formed s (at + n)
-  formed-more {n} h b e l z =
-      let t : ltb 0 (sequenceAt s at) ≡ true = lt-ltb 0 (sequenceAt s at) (omega (arith, z)) in
-      record {
-        near = omega arith;
-        still = f .still ∙ skip-on _ _ (length s) (sequence-moves s) (length s) at (omega arith) t ∙ rw e;
-      }
+  pub formed-more : {n : ℕ} → at < length s → length s ≤ maxDocument → WellFormedIs s at n → (n ≡ 0 → ⊥) → Formed s (at + n)
+  formed-more {n} h b w z = record { near = omega (arith, w .near h); still = f .still ∙ w .some z h }
 
   ends : sequenceAt s at ≡ 0 → wellFormedEnd s ≡ at
+  unfolding formedFrom
   ends e = f .still ∙ skip-off _ _ (length s) (sequence-moves s) (length s) at (rw e)
 
-  pub formed-bad : {n : ℕ} → at < length s → n ≡ sequenceAt s at → n ≡ 0 → Ill.At (doc at) ≡ illAt (illFormed s)
+  pub formed-bad : {n : ℕ} → at < length s → WellFormedIs s at n → n ≡ 0 → Ill.At (doc at) ≡ illAt (illFormed s)
   unfolding illFormed
-  formed-bad h e z =
-      let q : wellFormedEnd s ≡ at = ends (sym e ∙ z) in
+  formed-bad h w z =
+      let q : wellFormedEnd s ≡ at = ends (w .none z) in
       rw (lt-ltb (wellFormedEnd s) (length s) (omega arith), illFormed) (ap (λ p. Ill.At (doc p)) (sym q))
 
   pub formed-end : length s ≤ at → Ill.Nowhere ≡ illAt (illFormed s)

@@ -3,3 +3,4 @@ pub mod Seen
 pub mod Parts
 pub mod Bounds
 pub mod Clash
+pub mod WellFormed

@@ -9,6 +9,7 @@ ghost use Rattle.rules.specs.Sizes.{maxDocument};
 ghost use Rattle.rules.specs.Utf8.{continues, lowest, highest, promised, sequenceAt, illFormed};
 ghost use Rattle.rules.specs.Characters.{ofSeveral, characterAt};
 ghost use Rattle.text_chars.specs.Cursor.{ByteIs, WidthIs, PastIs, StepIs, illAt};
+ghost use Rattle.text_chars.specs.WellFormed.{NotAsciiIs, BlockIs, WellFormedIs};
 
 /// A place in a document or a path text.
 pub struct DocAt(pub usize);
@@ -195,6 +196,55 @@ fn sequence(s: &[u8], at: DocAt) -> usize
     }
 }
 
+// The bytes of a block: its tests have no way out of the loop, so that the compiler makes them all at once.
+const BLOCK: usize = 64;
+
+const NOT_ASCII: u8 = bytes::NOT_ASCII as u8;
+
+// Counts a byte that is not ASCII: 1 for one, else 0.
+fn not_ascii(b: u8) -> u8
+    ensures { λ r. ⌜ NotAsciiIs b r ⌝ }
+{
+    if b < NOT_ASCII {
+        return 0;
+    }
+    1
+}
+
+// Whether a block stands at a place, all of ASCII.
+fn ascii_block(s: &[u8], at: usize) -> bool
+    ensures { λ r. ⌜ BlockIs (now (s .entry)) at r ⌝ }
+{
+    if s.len() < at {
+        return false;
+    }
+    if s.len() - at < BLOCK {
+        return false;
+    }
+    let mut count: u8 = 0;
+    let mut i = 0;
+    while i < BLOCK {
+        count += not_ascii(s[at + i]);
+        i += 1;
+    }
+    count == 0
+}
+
+// How many bytes from a place on are well-formed: those of a block of ASCII, or of one sequence; 0 where there is none. Blocks are tried
+// only at their own places, so that a text without any pays little for them.
+fn well_formed(s: &[u8], at: DocAt) -> usize
+    requires { ⌜ (length (now s) ≤ maxDocument) × (at .0 ≤ maxDocument) ⌝ }
+    ensures { λ r. ⌜ WellFormedIs (now (s .entry)) (at .0) r ⌝ }
+{
+    let p = at.0;
+    if p % BLOCK == 0 {
+        if ascii_block(s, p) {
+            return BLOCK;
+        }
+    }
+    sequence(s, at)
+}
+
 /// Whether a text is well-formed UTF-8, and if not, where not first.
 pub fn ill_formed(s: &[u8]) -> Ill
     requires { ⌜ length (now s) ≤ maxDocument ⌝ }
@@ -202,7 +252,7 @@ pub fn ill_formed(s: &[u8]) -> Ill
 {
     let mut at = 0;
     while at < s.len() {
-        let n = sequence(s, DocAt(at));
+        let n = well_formed(s, DocAt(at));
         if n == 0 {
             return Ill::At(DocAt(at));
         }

@@ -4,18 +4,20 @@ use mathlib.Core.Bool.{Bool, true, false, _||_}
 use mathlib.Core.List.{List}
 use Prim.Native.Nat.{ℕ, zero, suc, _+_, _-_, _≤_, _<_}
 use native.Mathlib.Omega.{arith}
-use lib.ListN.{length}
+use lib.ListN.{length, getD}
 use lib.Dec.{eqb}
 use borrow.Author.Tests.{ne-eqb}
 use Rattle.rules.specs.Bytes.{byteAt}
 use Rattle.rules.specs.Characters.{nextPlace, characterAt, isNewline, isSpace, startsComment, lineEnd, gapFrom, gapAt}
+use Rattle.theory_text.specs.Ascii.{ascii-character}
 use Rattle.theory_text.specs.Places.{inside, character-past, next-forward, comment-forward, gap-stable}
+use Rattle.text_chars.specs.Cursor.{cur}
 use Rattle.text_chars.specs.declared.Cursor.{Cursor}
-use Rattle.text_scan.specs.Scan.{SeenIs, EndIs, rest, PassedIs, GapIs}
+use Rattle.text_scan.specs.Scan.{SeenIs, EndIs, BlanksIs, rest, Passes, PassedIs, GapIs}
 use Rattle.text_scan.specs.declared.Seen.{Seen}
 use Rattle.text_scan.specs.declared.Gap.{Gap}
 use Rattle.text_scan.specs.declared.Passed.{Passed}
-use Rattle.text_scan.specs.Looks.{byte-eqb, is-byte, not-byte, ascii-next}
+use Rattle.text_scan.specs.Looks.{getD-any, byte-next, visible, byte-eqb, is-byte, not-byte, ascii-next}
 
 -- ---- the start of a comment
 
@@ -92,10 +94,21 @@ module _ {s : List ℕ} {g : Gap} {r : Seen} (k : SeenIs s (g .next .at .0) r) w
       let c : characterAt s (g .next .at .0) ≡ 10 = sym (k .is) ∙ e in
       space-on (rw c) (rw c (or-true (g .newline)))
 
+  -- no gap begins with a visible ASCII character past the slash
+  pub pass-visible : 47 < r .ch → r .ch < 128 → PassedIs s g Passed.Done
+  pass-visible l h = record {
+    is =
+        gap-ends s (length s) (g .next .at .0) (g .newline) (rw (← k .is) (visible (r .ch) (omega arith) h))
+        (sym (comment-none k (λ e. omega arith) (λ e. omega arith)));
+  }
+
   module _ {f : Bool} (i : f ≡ isSpace (r .ch)) where
-    pub pass-space : (r .ch ≡ 10 → ⊥) → f ≡ true → PassedIs s g (Passed.On (record { next = r .next; newline = g .newline }))
-    pass-space n e =
-        space-on (rw (← k .is) (sym i ∙ e)) (rw (← k .is, ne-eqb (r .ch) 10 n) (or-false (g .newline)))
+    pub pass-space : {c : Cursor} → BlanksIs s (r .next .at .0) c → (r .ch ≡ 10 → ⊥) → f ≡ true
+        → PassedIs s g (Passed.On (record { next = c; newline = g .newline }))
+    pass-space b n e =
+        let l : (g .newline || isNewline (characterAt s (g .next .at .0))) ≡ g .newline = rw (← k .is, ne-eqb (r .ch) 10 n) (or-false (g .newline)) in
+        let m : Passes s g (Passed.On (record { next = r .next; newline = g .newline })) = space-on (rw (← k .is) (sym i ∙ e)) l .is in
+        record { is = (m .0 ∙ b .still (g .newline), omega (arith, m .1, b .forward), b .inside) }
 
     module _ {t : Bool} (j : t ≡ startsComment s (g .next .at .0)) where
       pub pass-comment : {e : Cursor} → f ≡ false → t ≡ true → EndIs s (g .next .at .0) (lineEnd s (g .next .at .0)) e
@@ -114,7 +127,24 @@ module _ {s : List ℕ} {g : Gap} {r : Seen} (k : SeenIs s (g .next .at .0) r) w
         is = gap-ends s (length s) (g .next .at .0) (g .newline) (rw (← k .is) (sym i ∙ z)) (sym j ∙ u);
       }
 
-pub ruleset passes = (pass-newline, pass-space, pass-comment, pass-done)
+pub ruleset passes = (pass-visible, pass-newline, pass-space, pass-comment, pass-done)
+
+-- ---- blanks
+
+pub blanks-start : {s : List ℕ} {p : ℕ} → p ≤ length s → BlanksIs s p (cur p)
+blanks-start h = record { still = λ n. refl; forward = omega arith; inside = h }
+
+pub blanks-on : {s : List ℕ} {at p : ℕ} → BlanksIs s at (cur p) → p < length s → getD s p 0 ≡ 32 → BlanksIs s at (cur (p + 1))
+blanks-on {s} {at} {p} b h e =
+    let c : byteAt s p ≡ 32 = getD-any s p 256 0 h ∙ e in
+    let d : characterAt s p ≡ 32 = ascii-character s p (omega arith) ∙ c in
+    record {
+      still = λ n. b .still n ∙ gap-space s (length s) p n (omega arith) (rw d) ∙ rw (d, byte-next s p (omega arith), or-false n);
+      forward = omega (arith, b .forward);
+      inside = omega arith;
+    }
+
+pub ruleset blanks = (arith, blanks-start, blanks-on)
 
 -- ---- the loop
 

@@ -6,6 +6,7 @@ use native.Mathlib.Omega.{arith}
 use lib.Dec.{leb, eqb}
 use borrow.Author.Tests.{le-leb, lt-leb, ne-eqb}
 use Rattle.rules.specs.Characters.{isWideSpace, isSpace, isInline}
+use Rattle.text_scan.specs.Looks.{visible}
 
 -- ---- past ASCII
 
@@ -96,7 +97,7 @@ module _ {c : ℕ} where
   no-wide h = wide-low {c = c} (λ e. omega arith) (λ e. omega arith) (omega arith)
 
   pub space-visible : 32 < c → c < 128 → false ≡ isSpace c
-  space-visible h k = space-wide h (no-wide (omega arith))
+  space-visible h k = sym (visible c h k)
 
   pub space-itself : c ≡ 32 → true ≡ isSpace c
   space-itself e = rw e

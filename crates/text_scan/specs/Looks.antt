@@ -1,15 +1,15 @@
 -- What stands at a place, and its byte: an ASCII character is one byte, and no other character looks like one.
 use mathlib.Core.Path.{_≡_, refl, sym, _∙_, ap}
 use mathlib.Core.Bool.{Bool, true, false}
-use mathlib.Core.List.{List}
-use Prim.Native.Nat.{ℕ, _+_, _≤_, _<_}
+use mathlib.Core.List.{List, [], _∷_}
+use Prim.Native.Nat.{ℕ, zero, suc, _+_, _≤_, _<_}
 use native.Mathlib.Omega.{arith}
-use lib.ListN.{length}
+use lib.ListN.{length, getD}
 use lib.Dec.{ltb, eqb}
-use borrow.Author.Tests.{lt-ltb, ltb-true, ltb-false, eq-eqb, ne-eqb}
+use borrow.Author.Tests.{lt-ltb, ltb-true, ltb-false, le-leb, lt-leb, eq-eqb, ne-eqb}
 use Rattle.answers.specs.Theory.Sound.{clash}
 use Rattle.rules.specs.Bytes.{byteAt}
-use Rattle.rules.specs.Characters.{noCharacter, widthOf, nextPlace, ofSeveral, characterAt}
+use Rattle.rules.specs.Characters.{noCharacter, widthOf, nextPlace, ofSeveral, characterAt, isSpace}
 use Rattle.theory_text.specs.Choices.{by-test}
 use Rattle.theory_text.specs.Places.{byte-past, character-past, inside}
 use Rattle.text_chars.specs.Cursor.{cur, stepAt, StepIs}
@@ -62,6 +62,12 @@ module _ (s : List ℕ) (at : ℕ) where
       two : 128 ≤ byteAt s at → (c : ℕ) → 128 ≤ c → Agree (byteAt s at) c
       two n c h = record { low = λ k. absurd (omega arith); high = λ k. n }
 
+-- inside a text what is said past its end does not matter
+pub getD-any : (s : List ℕ) (at a b : ℕ) → at < length s → getD s at a ≡ getD s at b
+getD-any [] at a b h = absurd (omega arith)
+getD-any (x ∷ s) zero a b h = refl
+getD-any (x ∷ s) (suc at) a b h = getD-any s at a b (omega arith)
+
 pub byte-next : (s : List ℕ) (at : ℕ) → byteAt s at < 128 → nextPlace s at ≡ at + 1
 unfolding nextPlace widthOf
 byte-next s at h = go (ltb at (length s)) refl
@@ -71,6 +77,25 @@ byte-next s at h = go (ltb at (length s)) refl
         let w : widthOf (byteAt s at) ≡ 1 = rw (lt-ltb (byteAt s at) 128 h, widthOf) in
         omega (arith, w, ltb-true at (length s) e)
     go false e = absurd (omega (arith, byte-past s at (ltb-false at (length s) e)))
+
+-- no visible ASCII character is whitespace
+pub visible : (c : ℕ) → 32 < c → c < 128 → isSpace c ≡ false
+visible c h k =
+    rw (
+      le-leb 9 c (omega arith),
+      lt-leb c 13 (omega arith),
+      le-leb 28 c (omega arith),
+      lt-leb c 31 (omega arith),
+      ne-eqb c 32 (λ e. omega arith),
+      ne-eqb c 160 (λ e. omega arith),
+      ne-eqb c 5760 (λ e. omega arith),
+      lt-leb 8192 c (omega arith),
+      lt-leb 8232 c (omega arith),
+      ne-eqb c 8239 (λ e. omega arith),
+      ne-eqb c 8287 (λ e. omega arith),
+      ne-eqb c 12288 (λ e. omega arith),
+      ne-eqb c 65279 (λ e. omega arith),
+    )
 
 -- a test that only ASCII characters pass
 abbrev pub Ascii : (ℕ → Bool) → Type 0

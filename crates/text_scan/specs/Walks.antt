@@ -11,10 +11,12 @@ use Rattle.rules.specs.Bytes.{byteAt}
 use Rattle.rules.specs.Characters.{noCharacter, nextPlace, characterAt, isNewline, isInline, afterInline, lineEnd}
 use Rattle.rules.specs.Numbers.{isDigit, afterDigits}
 use Rattle.rules.specs.Pieces.{stopsUnquoted, unquotedEnd}
+use Rattle.theory_text.specs.Ascii.{ascii-character}
 use Rattle.theory_text.specs.Places.{inline-moves, line-moves, unquoted-moves}
 use Rattle.theory.specs.Walks as by
+use Rattle.text_chars.specs.Cursor.{cur}
 use Rattle.text_chars.specs.declared.Cursor.{Cursor}
-use Rattle.text_scan.specs.Scan.{SeenIs, EndIs}
+use Rattle.text_scan.specs.Scan.{SeenIs, EndIs, LineByte}
 use Rattle.text_scan.specs.declared.Seen.{Seen}
 use Rattle.text_scan.specs.Looks.{byte-next, Ascii, passes-low, byte-test}
 
@@ -32,6 +34,19 @@ pub record Going (walk : List ℕ → ℕ → ℕ) (s : List ℕ) (at : ℕ) (p 
 
 pub going-start : {walk : List ℕ → ℕ → ℕ} {s : List ℕ} {p : Cursor} → p .at .0 ≤ length s → Going walk s (p .at .0) p
 going-start h = record { still = refl; forward = omega arith; inside = h }
+
+-- a walk that has come to a place, and from there to another
+pub going-further : {walk : List ℕ → ℕ → ℕ} {s : List ℕ} {at : ℕ} {p q : Cursor} → Going walk s at p → Going walk s (p .at .0) q → Going walk s at q
+going-further g h = record { still = g .still ∙ h .still; forward = omega arith; inside = h .inside }
+
+-- a walk goes over an ASCII byte
+going-byte : {walk : List ℕ → ℕ → ℕ} {goes : List ℕ → ℕ → Bool} → Walk walk goes → {s : List ℕ} {at p : ℕ}
+    → Going walk s at (cur p) → p < length s → byteAt s p < 128 → goes s p ≡ true → Going walk s at (cur (p + 1))
+going-byte w {s} {at} {p} g h l e = record {
+  still = g .still ∙ w .on s p e ∙ rw (byte-next s p l);
+  forward = omega arith;
+  inside = omega arith;
+}
 
 module _ {walk : List ℕ → ℕ → ℕ} {goes : List ℕ → ℕ → Bool} (w : Walk walk goes) {s : List ℕ} {p : Cursor} where
   pub going-done : {at : ℕ} → Going walk s at p → goes s (p .at .0) ≡ false → EndIs s at (walk s at) p
@@ -81,26 +96,33 @@ line-walk : Walk lineEnd lineGoes
 unfolding lineGoes
 line-walk = record { on = λ s p e. by.line-on s p e; off = λ s p e. by.line-off s p e; moves = λ s p e. line-moves s p e .1 }
 
-module _ {s : List ℕ} {p : Cursor} {r : Seen} (k : SeenIs s (p .at .0) r) where
+module _ {s : List ℕ} {o p : Cursor} (j : Going lineEnd s (o .at .0) p) {r : Seen} (k : SeenIs s (p .at .0) r) where
   line-goes : (r .ch ≡ 10 → ⊥) → (r .ch ≡ noCharacter → ⊥) → lineGoes s (p .at .0) ≡ true
   unfolding lineGoes
   line-goes n m = rw (← k .is, ne-eqb (r .ch) 10 n, ne-eqb (r .ch) noCharacter m)
 
-  pub line-on : {at : ℕ} → Going lineEnd s at p → (r .ch ≡ 10 → ⊥) → (r .ch ≡ noCharacter → ⊥) → Going lineEnd s at (r .next)
-  line-on g n m = going-on line-walk g k (line-goes n m)
+  pub line-on : {at : ℕ} → Going lineEnd s at o → (r .ch ≡ 10 → ⊥) → (r .ch ≡ noCharacter → ⊥) → Going lineEnd s at (r .next)
+  line-on g n m = going-on line-walk (going-further g j) k (line-goes n m)
 
-  pub line-less : (r .ch ≡ 10 → ⊥) → (r .ch ≡ noCharacter → ⊥) → length s - r .next .at .0 < length s - p .at .0
-  line-less n m = going-less line-walk k (line-goes n m)
+  pub line-less : (r .ch ≡ 10 → ⊥) → (r .ch ≡ noCharacter → ⊥) → length s - r .next .at .0 < length s - o .at .0
+  line-less n m = omega (arith, j .forward, going-less line-walk k (line-goes n m))
 
-  pub line-newline : {at : ℕ} → Going lineEnd s at p → r .ch ≡ 10 → EndIs s at (lineEnd s at) p
+  pub line-newline : {at : ℕ} → Going lineEnd s at o → r .ch ≡ 10 → EndIs s at (lineEnd s at) p
   unfolding lineGoes
-  line-newline g e = going-done line-walk g (rw (← k .is, e))
+  line-newline g e = going-done line-walk (going-further g j) (rw (← k .is, e))
 
-  pub line-last : {at : ℕ} → Going lineEnd s at p → r .ch ≡ noCharacter → EndIs s at (lineEnd s at) p
+  pub line-last : {at : ℕ} → Going lineEnd s at o → r .ch ≡ noCharacter → EndIs s at (lineEnd s at) p
   unfolding lineGoes
-  line-last g e = going-done line-walk g (rw (← k .is, e))
+  line-last g e = going-done line-walk (going-further g j) (rw (← k .is, e))
 
-pub ruleset line-loop = (going-start, line-on, line-less, line-newline, line-last)
+pub ruleset line-loop = (arith, going-start, line-on, line-less, line-newline, line-last)
+
+-- a byte of a comment
+pub line-byte : {s : List ℕ} {at p : ℕ} → Going lineEnd s at (cur p) → p < length s → LineByte (byteAt s p) → Going lineEnd s at (cur (p + 1))
+unfolding lineGoes
+line-byte {s} {at} {p} g h b =
+    let c : characterAt s p ≡ byteAt s p = ascii-character s p (b .ascii) in
+    going-byte line-walk g h (b .ascii) (rw (c, ne-eqb (byteAt s p) 10 (b .other), ne-eqb (byteAt s p) noCharacter (λ e. omega (arith, b .ascii))))
 
 -- ---- digits
 
@@ -150,19 +172,25 @@ unquoted-walk = record {
   moves = λ s p e. unquoted-moves s p e .1;
 }
 
-module _ (s : List ℕ) (p : Cursor) {f : Bool} (e : f ≡ stopsUnquoted s (p .at .0)) where
+-- a byte of unquoted text
+pub unquoted-byte : {s : List ℕ} {at p : ℕ} → Going unquotedEnd s at (cur p) → p < length s → byteAt s p < 128 → stopsUnquoted s p ≡ false
+    → Going unquotedEnd s at (cur (p + 1))
+unfolding unquotedGoes
+unquoted-byte g h l e = going-byte unquoted-walk g h l (ap not e)
+
+module _ {s : List ℕ} {o p : Cursor} (j : Going unquotedEnd s (o .at .0) p) {f : Bool} (e : f ≡ stopsUnquoted s (p .at .0)) where
   unquoted-says : {b : Bool} → f ≡ b → unquotedGoes s (p .at .0) ≡ not b
   unfolding unquotedGoes
   unquoted-says h = ap not (sym e ∙ h)
 
-  pub unquoted-done : {at : ℕ} → Going unquotedEnd s at p → f ≡ true → EndIs s at (unquotedEnd s at) p
-  unquoted-done g h = going-done unquoted-walk g (unquoted-says h)
+  pub unquoted-done : {at : ℕ} → Going unquotedEnd s at o → f ≡ true → EndIs s at (unquotedEnd s at) p
+  unquoted-done g h = going-done unquoted-walk (going-further g j) (unquoted-says h)
 
   module _ {r : Seen} (k : SeenIs s (p .at .0) r) where
-    pub unquoted-on : {at : ℕ} → Going unquotedEnd s at p → f ≡ false → Going unquotedEnd s at (r .next)
-    unquoted-on g h = going-on unquoted-walk g k (unquoted-says h)
+    pub unquoted-on : {at : ℕ} → Going unquotedEnd s at o → f ≡ false → Going unquotedEnd s at (r .next)
+    unquoted-on g h = going-on unquoted-walk (going-further g j) k (unquoted-says h)
 
-    pub unquoted-less : f ≡ false → length s - r .next .at .0 < length s - p .at .0
-    unquoted-less h = going-less unquoted-walk k (unquoted-says h)
+    pub unquoted-less : f ≡ false → length s - r .next .at .0 < length s - o .at .0
+    unquoted-less h = omega (arith, j .forward, going-less unquoted-walk k (unquoted-says h))
 
-pub ruleset unquoted-loop = (going-start, unquoted-done, unquoted-on, unquoted-less)
+pub ruleset unquoted-loop = (arith, going-start, unquoted-done, unquoted-on, unquoted-less)

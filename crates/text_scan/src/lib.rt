@@ -7,8 +7,10 @@ ghost use Prim.Native.Nat.{_≤_, _<_};
 ghost use lib.ListN.{length};
 ghost use Rattle.rules.specs.Sizes.{maxDocument};
 ghost use Rattle.rules.specs.Characters.{isWideSpace, isSpace, isInline, startsComment, afterInline, lineEnd};
-ghost use Rattle.text_scan.specs.Scan.{SeenIs, EndIs, PassedIs, GapIs};
+ghost use Rattle.text_scan.specs.Scan.{SeenIs, EndIs, BreaksIs, BlockIs, BlanksIs, PassedIs, GapIs};
+ghost use Rattle.text_scan.specs.Walks.{Going};
 use text_chars::Cursor;
+use text_chars::DocAt;
 use text_chars::Step;
 
 /// The character at a place, `bytes::NO_CHARACTER` at the end, and the place after it, which at the end is the end.
@@ -137,6 +139,76 @@ pub fn starts_comment(s: &[u8], c: Cursor) -> bool
     false
 }
 
+// The bytes of a block of a comment: its tests have no way out of the loop, so that the compiler makes them all at once.
+const BLOCK: usize = 32;
+
+const NEWLINE: u8 = bytes::NEWLINE as u8;
+
+const NOT_ASCII: u8 = bytes::NOT_ASCII as u8;
+
+// Counts a byte that a run of a comment stops at: 1 for a newline and for one that is not ASCII, else 0.
+fn breaks(b: u8) -> u8
+    ensures { λ r. ⌜ BreaksIs b r ⌝ }
+{
+    if b == NEWLINE {
+        return 1;
+    }
+    if b < NOT_ASCII {
+        return 0;
+    }
+    1
+}
+
+// Whether a block stands at a place, all of it ASCII and no newline.
+fn line_block(s: &[u8], at: usize) -> bool
+    ensures { λ r. ⌜ BlockIs (now (s .entry)) at r ⌝ }
+{
+    if s.len() < at {
+        return false;
+    }
+    if s.len() - at < BLOCK {
+        return false;
+    }
+    let mut count: u8 = 0;
+    let mut i = 0;
+    while i < BLOCK {
+        count += breaks(s[at + i]);
+        i += 1;
+    }
+    count == 0
+}
+
+// The place after the blocks of a comment.
+fn line_blocks(s: &[u8], c: Cursor) -> Cursor
+    requires { ⌜ c .at .0 ≤ length (now s) ⌝ }
+    ensures { λ r. ⌜ Going lineEnd (now (s .entry)) (c .at .0) r ⌝ }
+{
+    let from = c.at;
+    let mut p = from.0;
+    while line_block(s, p) {
+        p += BLOCK;
+    }
+    Cursor { at: DocAt(p) }
+}
+
+// The place after a run of a comment: blocks, then single bytes. The comment may go on behind it.
+fn line_run(s: &[u8], c: Cursor) -> Cursor
+    requires { ⌜ c .at .0 ≤ length (now s) ⌝ }
+    ensures { λ r. ⌜ Going lineEnd (now (s .entry)) (c .at .0) r ⌝ }
+{
+    let blocks = line_blocks(s, c);
+    let from = blocks.at;
+    let mut p = from.0;
+    while p < s.len() {
+        if breaks(s[p]) == 0 {
+            p += 1;
+        } else {
+            return Cursor { at: DocAt(p) };
+        }
+    }
+    Cursor { at: DocAt(p) }
+}
+
 // The newline that ends a comment, or the end of the text.
 fn line_end(s: &[u8], c: Cursor) -> Cursor
     requires { ⌜ (length (now s) ≤ maxDocument) × (c .at .0 ≤ length (now s)) ⌝ }
@@ -144,13 +216,14 @@ fn line_end(s: &[u8], c: Cursor) -> Cursor
 {
     let mut p = c;
     loop {
-        let here = look(s, p);
+        let run = line_run(s, p);
+        let here = look(s, run);
         let ch = here.ch;
         if ch == bytes::NEWLINE {
-            return p;
+            return run;
         }
         if ch == bytes::NO_CHARACTER {
-            return p;
+            return run;
         }
         let next = here.next;
         p = next;
@@ -165,13 +238,32 @@ pub struct Gap {
 
 // Whether a gap goes on.
 enum Passed {
-    // the gap with one character of whitespace or one comment more
+    // the gap with some characters of whitespace or one comment more
     On(Gap),
     // neither stands here
     Done,
 }
 
-// One character of whitespace, or one comment.
+const BLANK: u8 = bytes::SPACE as u8;
+
+// The place after the blanks.
+fn after_blanks(s: &[u8], c: Cursor) -> Cursor
+    requires { ⌜ c .at .0 ≤ length (now s) ⌝ }
+    ensures { λ r. ⌜ BlanksIs (now (s .entry)) (c .at .0) r ⌝ }
+{
+    let from = c.at;
+    let mut p = from.0;
+    while p < s.len() {
+        if s[p] == BLANK {
+            p += 1;
+        } else {
+            return Cursor { at: DocAt(p) };
+        }
+    }
+    Cursor { at: DocAt(p) }
+}
+
+// One character of whitespace with the blanks behind it, or one comment. What most members begin with is decided first.
 fn pass(s: &[u8], g: Gap) -> Passed
     requires { ⌜ (length (now s) ≤ maxDocument) × (g .next .at .0 ≤ length (now s)) ⌝ }
     ensures { λ r. ⌜ PassedIs (now (s .entry)) g r ⌝ }
@@ -181,6 +273,11 @@ fn pass(s: &[u8], g: Gap) -> Passed
     let here = look(s, at);
     let ch = here.ch;
     let next = here.next;
+    if ch > bytes::SLASH {
+        if ch < bytes::NOT_ASCII {
+            return Passed::Done;
+        }
+    }
     if ch == bytes::NEWLINE {
         return Passed::On(Gap {
             next,
@@ -188,7 +285,8 @@ fn pass(s: &[u8], g: Gap) -> Passed
         });
     }
     if is_space(ch) {
-        return Passed::On(Gap { next, newline });
+        let end = after_blanks(s, next);
+        return Passed::On(Gap { next: end, newline });
     }
     if starts_comment(s, at) {
         let end = line_end(s, at);

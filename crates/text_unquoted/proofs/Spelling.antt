@@ -116,26 +116,46 @@ pub ruleset spellings = (arith, spelled-inside, first-no, first-yes)
 
 -- ---- words
 
-module _ {s : List ℕ} {at : ℕ} {t : Letters} (k : SpelledIs wordTrue s at t) where
-  pub word-true : {c : Cursor} → t ≡ Letters.Yes c → WordIs s at (Word.True c)
-  word-true e = record { is = rw e at (k .is) }
+-- a word does not begin with another letter than its first
+module _ {s : List ℕ} {at : ℕ} {r : Seen} (k : SeenIs s at r) where
+  other-letter : (a : ℕ) (w : Text) → a < 128 → (r .ch ≡ a → ⊥) → startsWith (a ∷ w) s at ≡ false
+  other-letter a w l n = starts-cons s at a w ∙ rw (starts-one s at a l ∙ not-byte k a l n)
 
-  module _ (n : t ≡ Letters.No) {f : Letters} (j : SpelledIs wordFalse s at f) where
-    not-true : startsWith wordTrue s at ≡ false
-    not-true = rw n at (k .is)
+  not-true : (r .ch ≡ 116 → ⊥) → startsWith wordTrue s at ≡ false
+  not-true n = other-letter 116 _ (omega arith) n
 
-    pub word-false : {c : Cursor} → f ≡ Letters.Yes c → WordIs s at (Word.False c)
-    word-false {c} e = let y : Spells wordFalse s at (Letters.Yes c) = rw e at (j .is) in record { is = (not-true, y .0, y .1, y .2) }
+  not-false : (r .ch ≡ 102 → ⊥) → startsWith wordFalse s at ≡ false
+  not-false n = other-letter 102 _ (omega arith) n
 
-    module _ (m : f ≡ Letters.No) {u : Letters} (i : SpelledIs wordNull s at u) where
-      not-false : startsWith wordFalse s at ≡ false
-      not-false = rw m at (j .is)
+  not-null : (r .ch ≡ 110 → ⊥) → startsWith wordNull s at ≡ false
+  not-null n = other-letter 110 _ (omega arith) n
 
-      pub word-null : {c : Cursor} → u ≡ Letters.Yes c → WordIs s at (Word.Null c)
-      word-null {c} e =
-          let y : Spells wordNull s at (Letters.Yes c) = rw e at (i .is) in record { is = (not-true, not-false, y .0, y .1, y .2) }
+  module _ {t : Letters} (j : SpelledIs wordTrue s at t) where
+    pub word-true : {c : Cursor} → t ≡ Letters.Yes c → WordIs s at (Word.True c)
+    word-true e = record { is = rw e at (j .is) }
 
-      pub word-other : u ≡ Letters.No → WordIs s at Word.Other
-      word-other e = record { is = (not-true, not-false, rw e at (i .is)) }
+    pub no-true : r .ch ≡ 116 → t ≡ Letters.No → WordIs s at Word.Other
+    no-true h e = record { is = (rw e at (j .is), not-false (λ z. omega arith), not-null (λ z. omega arith)) }
 
-pub ruleset words = (word-true, word-false, word-null, word-other)
+  module _ {t : Letters} (j : SpelledIs wordFalse s at t) (h : r .ch ≡ 102) where
+    pub word-false : {c : Cursor} → t ≡ Letters.Yes c → WordIs s at (Word.False c)
+    word-false {c} e =
+        let y : Spells wordFalse s at (Letters.Yes c) = rw e at (j .is) in
+        record { is = (not-true (λ z. omega arith), y .0, y .1, y .2) }
+
+    pub no-false : t ≡ Letters.No → WordIs s at Word.Other
+    no-false e = record { is = (not-true (λ z. omega arith), rw e at (j .is), not-null (λ z. omega arith)) }
+
+  module _ {t : Letters} (j : SpelledIs wordNull s at t) (h : r .ch ≡ 110) where
+    pub word-null : {c : Cursor} → t ≡ Letters.Yes c → WordIs s at (Word.Null c)
+    word-null {c} e =
+        let y : Spells wordNull s at (Letters.Yes c) = rw e at (j .is) in
+        record { is = (not-true (λ z. omega arith), not-false (λ z. omega arith), y .0, y .1, y .2) }
+
+    pub no-null : t ≡ Letters.No → WordIs s at Word.Other
+    no-null e = record { is = (not-true (λ z. omega arith), not-false (λ z. omega arith), rw e at (j .is)) }
+
+  pub word-other : (r .ch ≡ 116 → ⊥) → (r .ch ≡ 102 → ⊥) → (r .ch ≡ 110 → ⊥) → WordIs s at Word.Other
+  word-other a b c = record { is = (not-true a, not-false b, not-null c) }
+
+pub ruleset words = (word-true, no-true, word-false, no-false, word-null, no-null, word-other)

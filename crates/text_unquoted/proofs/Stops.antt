@@ -5,15 +5,22 @@ use mathlib.Core.List.{List, [], _∷_}
 use mathlib.Core.Logic.{inl, inr}
 use Prim.Native.Nat.{ℕ, zero, suc, _+_, _≤_, _<_}
 use native.Mathlib.Omega.{arith}
-use lib.Dec.{eqb}
-use borrow.Author.Tests.{ne-eqb, eqb-true, eqb-false}
+use lib.Dec.{leb, eqb}
+use lib.ListN.{length, getD}
+use borrow.Author.Tests.{leb-true, ne-eqb, eqb-true, eqb-false}
 use types.Run.{OneOf}
 use Rattle.answers.specs.Ask.{mem}
+use Rattle.rules.specs.Bytes.{byteAt}
 use Rattle.rules.specs.Characters.{noCharacter, characterAt, isSpace, startsComment}
-use Rattle.rules.specs.Pieces.{forbidden, stopsUnquoted, startsSimple}
+use Rattle.rules.specs.Pieces.{forbidden, stopsUnquoted, startsSimple, unquotedEnd}
+use Rattle.theory_text.specs.Ascii.{ascii-character}
+use Rattle.text_chars.specs.Clash.{clash}
+use Rattle.text_chars.specs.Cursor.{cur}
 use Rattle.text_scan.specs.Scan.{SeenIs}
 use Rattle.text_scan.specs.declared.Seen.{Seen}
-use Rattle.text_scan.specs.Looks.{is-byte, not-byte}
+use Rattle.text_scan.specs.Looks.{getD-any, visible, is-byte, not-byte}
+use Rattle.text_scan.specs.Walks.{Going, going-start, unquoted-byte}
+use Rattle.text_unquoted.specs.Contracts.{Plain, PlainIs}
 
 -- ---- the characters that unquoted text cannot have
 
@@ -118,6 +125,70 @@ pub ruleset forbiddens = (
   allowed-95,
 )
 
+-- ---- the bytes that unquoted text goes over
+
+module _ {b : ℕ} where
+  plain : 44 < b → b < 128 → (b ≡ 47 → ⊥) → mem b forbidden ≡ false → Plain b
+  plain l h n m = record { ascii = h; space = visible b (omega arith) h; allowed = m; slash = n }
+
+  pub plain-small : 97 ≤ b → PlainIs b (leb b 122)
+  plain-small h = record {
+    plain = λ e. let k = leb-true b 122 e in plain (omega arith) (omega arith) (λ z. omega arith) (absent forbidden b (omega arith));
+  }
+
+  pub plain-capital : 65 ≤ b → b ≤ 90 → PlainIs b true
+  plain-capital h k = record { plain = λ e. plain (omega arith) (omega arith) (λ z. omega arith) (absent forbidden b (omega arith)) }
+
+  pub plain-line : PlainIs b (eqb b 95)
+  plain-line = record {
+    plain = λ e. let k = eqb-true b 95 e in plain (omega arith) (omega arith) (λ z. omega arith) (absent forbidden b (omega arith));
+  }
+
+  pub plain-digit : 48 ≤ b → PlainIs b (leb b 57)
+  plain-digit h = record {
+    plain = λ e. let k = leb-true b 57 e in plain (omega arith) (omega arith) (λ z. omega arith) (absent forbidden b (omega arith));
+  }
+
+  pub plain-none : PlainIs b false
+  plain-none = record { plain = λ e. clash (cc) }
+
+  pub plain-sign : 45 ≤ b → PlainIs b (leb b 46)
+  plain-sign h = record {
+    plain = λ e. let k = leb-true b 46 e in plain (omega arith) (omega arith) (λ z. omega arith) (absent forbidden b (omega arith));
+  }
+
+pub ruleset plains = (plain-small, plain-capital, plain-line, plain-digit, plain-none, plain-sign)
+
+module _ (s : List ℕ) (p : ℕ) (h : p < length s) {f : Bool} (k : PlainIs (getD s p 0) f) (e : f ≡ true) where
+  plain-byte : Plain (byteAt s p)
+  plain-byte = rw (getD-any s p 0 256 h) at (k .plain e)
+
+  no-comment : startsComment s p ≡ false
+  unfolding startsComment
+  no-comment =
+      rw (ne-eqb (byteAt s p) 35 (λ z. hash (byteAt s p) z (plain-byte .allowed)), ne-eqb (byteAt s p) 47 (plain-byte .slash), startsComment)
+    where
+      hash : (b : ℕ) → b ≡ 35 → mem b forbidden ≡ false → ⊥
+      hash b z a = let y : mem b forbidden ≡ true = rw z in clash (cc)
+
+  goes : stopsUnquoted s p ≡ false
+  unfolding stopsUnquoted
+  goes =
+      let b = plain-byte in
+      let c : characterAt s p ≡ byteAt s p = ascii-character s p (b .ascii) in
+      let n : eqb (characterAt s p) noCharacter ≡ false = ne-eqb (characterAt s p) noCharacter (λ z. omega (arith, b .ascii)) in
+      let o : (eqb (characterAt s p) noCharacter || isSpace (characterAt s p)) ≡ false = rw n (ap isSpace c ∙ b .space) in
+      let m : mem (characterAt s p) forbidden ≡ false = ap (λ z. mem z forbidden) c ∙ b .allowed in
+      rw (o, m, stopsUnquoted) no-comment
+
+  pub stops-plain : false ≡ stopsUnquoted s p
+  stops-plain = sym goes
+
+  pub run-plain : {at : ℕ} → Going unquotedEnd s at (cur p) → Going unquotedEnd s at (cur (p + 1))
+  run-plain g = unquoted-byte g h (plain-byte .ascii) goes
+
+pub ruleset runs = (arith, going-start, run-plain)
+
 -- ---- where unquoted text stops
 
 module _ {s : List ℕ} {at : ℕ} {r : Seen} (k : SeenIs s at r) where
@@ -160,6 +231,6 @@ module _ {s : List ℕ} {at : ℕ} {r : Seen} (k : SeenIs s at r) where
     unfolding startsSimple
     simple-goes h = rw (not-byte k 34 (omega arith) n, startsSimple) (ap not (sym h ∙ i))
 
-pub ruleset stops = (stops-end, stops-space, stops-forbidden, stops-comment)
+pub ruleset stops = (stops-plain, stops-end, stops-space, stops-forbidden, stops-comment)
 
 pub ruleset simples = (simple-quote, simple-stops, simple-goes)

@@ -1,14 +1,26 @@
--- What the functions on words promise, by the rules' definitions.
+-- What the functions on unquoted text and words promise, by the rules' definitions.
 use mathlib.Core.Path.{_≡_}
-use Prim.Native.Nat.{ℕ, _+_, _≤_}
-use mathlib.Core.Bool.{true, false}
+use Prim.Native.Nat.{ℕ, _+_, _≤_, _<_}
+use mathlib.Core.Bool.{Bool, true, false}
 use mathlib.Core.List.{List}
 use lib.ListN.{length}
+use Rattle.answers.specs.Ask.{mem}
 use Rattle.rules.specs.Bytes.{Text}
-use Rattle.rules.specs.Pieces.{wordTrue, wordFalse, wordNull, startsWith}
+use Rattle.rules.specs.Characters.{isSpace}
+use Rattle.rules.specs.Pieces.{forbidden, wordTrue, wordFalse, wordNull, startsWith}
 use Rattle.text_chars.specs.declared.Cursor.{Cursor}
 use Rattle.text_unquoted.specs.declared.Letters.{Letters}
 use Rattle.text_unquoted.specs.declared.Word.{Word}
+
+-- an ASCII byte at which unquoted text does not stop, whatever stands behind it
+pub record Plain (b : ℕ) : Type 0 where
+  pub ascii : b < 128
+  pub space : isSpace b ≡ false
+  pub allowed : mem b forbidden ≡ false
+  pub slash : b ≡ 47 → ⊥
+
+pub record PlainIs (b : ℕ) (r : Bool) : Type 0 where
+  pub plain : r ≡ true → Plain b
 
 -- letters stand at a place, with the cursor past them, or they do not
 abbrev pub Spells : Text → List ℕ → ℕ → Letters → Type 0

@@ -11,8 +11,10 @@ ghost use Rattle.rules.specs.Sizes.{maxDocument};
 ghost use Rattle.rules.specs.Paths.{wordInclude};
 ghost use Rattle.rules.specs.Pieces.{forbidden, stopsUnquoted, startsSimple, unquotedEnd, wordFalse};
 ghost use Rattle.text_scan.specs.Scan.{EndIs};
-ghost use Rattle.text_unquoted.specs.Contracts.{SpelledIs, WordIs};
+ghost use Rattle.text_scan.specs.Walks.{Going};
+ghost use Rattle.text_unquoted.specs.Contracts.{PlainIs, SpelledIs, WordIs};
 use text_chars::Cursor;
+use text_chars::DocAt;
 use text_scan::is_space;
 use text_scan::look;
 use text_scan::starts_comment;
@@ -36,11 +38,40 @@ fn is_forbidden(ch: u32) -> bool
     }
 }
 
+// ASCII that unquoted text goes over whatever stands behind it: letters, digits, `_`, `-` and `.`, the small letters first.
+fn is_plain(b: u8) -> bool
+    ensures { λ r. ⌜ PlainIs b r ⌝ }
+{
+    if b'a' <= b {
+        return b <= b'z';
+    }
+    if b'A' <= b {
+        if b <= b'Z' {
+            return true;
+        }
+        return b == b'_';
+    }
+    if b'0' <= b {
+        return b <= b'9';
+    }
+    if b < b'-' {
+        return false;
+    }
+    b <= b'.'
+}
+
 /// Whether unquoted text goes no further than here.
 pub fn stops_unquoted(s: &[u8], c: Cursor) -> bool
     requires { ⌜ (length (now s) ≤ maxDocument) × (c .at .0 ≤ length (now s)) ⌝ }
     ensures { λ r. ⌜ r ≡ stopsUnquoted (now (s .entry)) (c .at .0) ⌝ }
 {
+    let at = c.at;
+    let p = at.0;
+    if p < s.len() {
+        if is_plain(s[p]) {
+            return false;
+        }
+    }
     let here = look(s, c);
     let ch = here.ch;
     if ch == bytes::NO_CHARACTER {
@@ -55,6 +86,23 @@ pub fn stops_unquoted(s: &[u8], c: Cursor) -> bool
     starts_comment(s, c)
 }
 
+// The place after a run of unquoted text. The text may go on behind it.
+fn plain_run(s: &[u8], c: Cursor) -> Cursor
+    requires { ⌜ c .at .0 ≤ length (now s) ⌝ }
+    ensures { λ r. ⌜ Going unquotedEnd (now (s .entry)) (c .at .0) r ⌝ }
+{
+    let from = c.at;
+    let mut p = from.0;
+    while p < s.len() {
+        if is_plain(s[p]) {
+            p += 1;
+        } else {
+            return Cursor { at: DocAt(p) };
+        }
+    }
+    Cursor { at: DocAt(p) }
+}
+
 /// The place after unquoted text.
 pub fn unquoted_end(s: &[u8], c: Cursor) -> Cursor
     requires { ⌜ (length (now s) ≤ maxDocument) × (c .at .0 ≤ length (now s)) ⌝ }
@@ -62,10 +110,11 @@ pub fn unquoted_end(s: &[u8], c: Cursor) -> Cursor
 {
     let mut p = c;
     loop {
-        if stops_unquoted(s, p) {
-            return p;
+        let run = plain_run(s, p);
+        if stops_unquoted(s, run) {
+            return run;
         }
-        let here = look(s, p);
+        let here = look(s, run);
         let next = here.next;
         p = next;
     }
@@ -163,19 +212,30 @@ pub enum Word {
     Other,
 }
 
-/// The word at a place.
+/// The word at a place, by its first letter.
 pub fn word_at(s: &[u8], c: Cursor) -> Word
     requires { ⌜ (length (now s) ≤ maxDocument) × (c .at .0 ≤ length (now s)) ⌝ }
     ensures { λ r. ⌜ WordIs (now (s .entry)) (c .at .0) r ⌝ }
 {
-    match four(s, c, letters::T, letters::R, letters::U, letters::E) {
-        Letters::Yes(end) => Word::True(end),
-        Letters::No => match spells_false(s, c) {
-            Letters::Yes(end) => Word::False(end),
-            Letters::No => match four(s, c, letters::N, letters::U, letters::L, letters::L) {
-                Letters::Yes(end) => Word::Null(end),
-                Letters::No => Word::Other,
-            },
-        },
+    let here = look(s, c);
+    let ch = here.ch;
+    if ch == letters::T {
+        return match four(s, c, letters::T, letters::R, letters::U, letters::E) {
+            Letters::Yes(end) => Word::True(end),
+            Letters::No => Word::Other,
+        };
     }
+    if ch == letters::F {
+        return match spells_false(s, c) {
+            Letters::Yes(end) => Word::False(end),
+            Letters::No => Word::Other,
+        };
+    }
+    if ch == letters::N {
+        return match four(s, c, letters::N, letters::U, letters::L, letters::L) {
+            Letters::Yes(end) => Word::Null(end),
+            Letters::No => Word::Other,
+        };
+    }
+    Word::Other
 }

@@ -20,4 +20,13 @@ returns c = search line-loop
 pub line-end-spec : {M : Type 1} → statement M
 line-end-spec =
     tie.close
-    (tie.spec Inv-loop μ-loop (λ c. search line-loop) (λ c κs. search needs) returns (λ c. search line-loop) (λ c. search line-loop) (λ c. search line-loop))
+    (tie.spec
+    Inv-loop
+    μ-loop
+    (λ c. search line-loop)
+    (λ c κs. search needs)
+    (λ c κs. search needs)
+    returns
+    (λ c. search line-loop)
+    (λ c. search line-loop)
+    (λ c. search line-loop))

@@ -10,6 +10,8 @@ pass-spec =
     (tie.spec
     (λ c κs. search needs)
     (λ c. search passes)
+    (λ c. search passes)
+    (λ c κs. search needs)
     (λ c κs. search needs)
     (λ c. search passes)
     (λ c κs. search needs)

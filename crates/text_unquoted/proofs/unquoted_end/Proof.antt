@@ -25,6 +25,7 @@ unquoted-end-spec =
     μ-loop
     (λ c. search unquoted-loop)
     (λ c κs. search needs)
+    (λ c κs. search needs)
     returns
     (λ c κs. search needs)
     (λ c. search unquoted-loop)
