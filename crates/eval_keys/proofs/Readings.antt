@@ -2,36 +2,47 @@
 use mathlib.Core.Path.{_≡_, refl, sym, ap, _∙_}
 use mathlib.Core.Bool.{Bool, true, false}
 use mathlib.Core.List.{List, _∷_}
-use Prim.Native.Nat.{ℕ, _+_, _-_, _*_, _/_, _%_, _≤_, _<_}
+use Prim.Native.Nat.{ℕ, _+_, _-_, _*_, _%_, _≤_, _<_}
 use native.Mathlib.Omega.{arith}
-use lib.ListN.{length, getD}
+use lib.ListN.{length}
 use Rattle.rules.specs.Bytes.{Text, byteAt, same}
 use Rattle.text_chars.specs.Cursor.{ByteIs}
 use Rattle.doc_items.specs.Writing.{ReadIs}
 use Rattle.doc_items.specs.Parts.{numbers}
-use Rattle.eval_keys.specs.Texts.{same-not, same-more, same-less, textOf, text-length, text-at, text-step, bucketCount, bucketOf}
+use Rattle.eval_keys.specs.Texts.{same-not, same-more, same-less, textOf, text-length, text-step, hashBound, hashFrom, bucketBy, bucketOf}
 use Rattle.eval_keys.specs.Columns.{keyText}
 use Rattle.eval_keys.specs.Contracts.{BucketIs, SameIs, HasKeyIs}
 
--- ---- buckets
+-- ---- buckets: what is left of a text gives what all of it gives
 
-module _ (X : List ℕ) (at len : ℕ) where
-  pub bucket-empty : len ≡ 0 → BucketIs X at len 0
-  unfolding bucketOf textOf
-  bucket-empty e = record { is = rw e refl; small = omega arith }
+pub record HashInv (X : List ℕ) (at len hash i : ℕ) : Type 0 where
+  pub is : hashFrom 0 (textOf (byteAt X) at len) ≡ hashFrom hash (textOf (byteAt X) (at + i) (len - i))
+  pub upto : i ≤ len
+  pub small : hash < hashBound
 
-  pub bucket-is : {f m l : ℕ} → (len ≡ 0 → ⊥) → ByteIs X at f → ByteIs X (at + len / 2) m → ByteIs X (at + (len - 1)) l
-      → BucketIs X at len ((len + 3 * f + 7 * m + 31 * l) % bucketCount)
-  unfolding bucketOf
-  bucket-is {f} {m} {l} d a b c =
-      let z : at + 0 ≡ at = omega arith in
-      let e₀ : length (textOf (byteAt X) at len) ≡ len = text-length (byteAt X) at len in
-      let e₁ : getD (textOf (byteAt X) at len) 0 0 ≡ f = text-at (byteAt X) at len 0 (omega arith) ∙ ap (byteAt X) z ∙ sym (a .is) in
-      let e₂ : getD (textOf (byteAt X) at len) (len / 2) 0 ≡ m = text-at (byteAt X) at len (len / 2) (omega arith) ∙ sym (b .is) in
-      let e₃ : getD (textOf (byteAt X) at len) (len - 1) 0 ≡ l = text-at (byteAt X) at len (len - 1) (omega arith) ∙ sym (c .is) in
-      record { is = rw (bucketOf, e₀, e₁, e₂, e₃) refl; small = omega arith }
+pub hash-start : {X : List ℕ} {at len : ℕ} → HashInv X at len 0 0
+hash-start {X} {at} {len} =
+    let p : at + 0 ≡ at = omega arith in
+    let r : len - 0 ≡ len = omega arith in
+    record { is = rw (p, r) refl; upto = omega arith; small = omega arith }
 
-pub ruleset buckets = (bucket-empty, bucket-is)
+module _ {X : List ℕ} {at len hash i : ℕ} (I : HashInv X at len hash i) where
+  pub hash-again : {b : ℕ} → i < len → ByteIs X (at + i) b → HashInv X at len ((hash * 31 + b) % hashBound) (i + 1)
+  unfolding hashFrom
+  hash-again {b} l p = record {
+    is = I .is ∙ ap (hashFrom hash) (text-step (byteAt X) at i len l) ∙ rw (p .is) refl;
+    upto = omega arith;
+    small = omega arith;
+  }
+
+  pub bucket-done : len ≤ i → BucketIs X at len (bucketBy hash)
+  unfolding bucketOf hashFrom textOf
+  bucket-done l =
+      let e : len - i ≡ 0 = omega arith in
+      let h : hashFrom 0 (textOf (byteAt X) at len) ≡ hash = I .is ∙ rw e refl in
+      record { is = ap bucketBy (sym h); small = omega arith }
+
+pub ruleset hashes = (hash-start, hash-again, bucket-done)
 
 -- ---- texts of one length: what is left to compare gives what all give
 

@@ -6,11 +6,11 @@ use Rattle.eval_keys.specs.Texts.{textOf, bucketOf}
 use Rattle.eval_keys.specs.Columns.{keysAt, bucketsAt, linksAt, firstsAt, nextsAt, columnsEnd, keyText}
 use Rattle.eval_keys.specs.Numbers.{firstOf, numberOf}
 
--- abcdeaXcYeabc
+-- abcdeacDdeabc
 unfoldable X : List ℕ
-X = 97 ∷ 98 ∷ 99 ∷ 100 ∷ 101 ∷ 97 ∷ 88 ∷ 99 ∷ 89 ∷ 101 ∷ 97 ∷ 98 ∷ 99 ∷ []
+X = 97 ∷ 98 ∷ 99 ∷ 100 ∷ 101 ∷ 97 ∷ 99 ∷ 68 ∷ 100 ∷ 101 ∷ 97 ∷ 98 ∷ 99 ∷ []
 
--- the keys abc, abcde, abc, aXcYe; then whitespace before a piece, which is no key
+-- the keys abc, abcde, abc, acDde; then whitespace before a piece, which is no key
 unfoldable T : List ℕ
 T = 7 ∷ 6 ∷ 0 ∷ 0 ∷ 0 ∷ 0 ∷ 0 ∷ 0
     ∷ 1 ∷ 1 ∷ 0 ∷ 3 ∷ 0 ∷ 0 ∷ 0 ∷ 0
@@ -20,7 +20,7 @@ T = 7 ∷ 6 ∷ 0 ∷ 0 ∷ 0 ∷ 0 ∷ 0 ∷ 0
     ∷ 17 ∷ 1 ∷ 10 ∷ 1 ∷ 0 ∷ 0 ∷ 0 ∷ 0
     ∷ []
 
-one-bucket : bucketOf (keyText X T 2) ∷ bucketOf (keyText X T 4) ∷ [] ≡ 24 ∷ 24 ∷ []
+one-bucket : bucketOf (keyText X T 2) ∷ bucketOf (keyText X T 4) ∷ [] ≡ 416 ∷ 416 ∷ []
 unfolding bucketOf textOf X T
 one-bucket = refl
 
@@ -36,5 +36,5 @@ unfolding firstOf textOf X T
 no-number = refl
 
 -- the columns, one behind the other
-columns : keysAt ∷ bucketsAt ∷ linksAt ∷ firstsAt ∷ nextsAt ∷ columnsEnd ∷ [] ≡ 16904 ∷ 18953 ∷ 19209 ∷ 21258 ∷ 23307 ∷ 25356 ∷ []
+columns : keysAt ∷ bucketsAt ∷ linksAt ∷ firstsAt ∷ nextsAt ∷ columnsEnd ∷ [] ≡ 16904 ∷ 18953 ∷ 19977 ∷ 22026 ∷ 24075 ∷ 26124 ∷ []
 columns = refl

@@ -5,7 +5,7 @@ use mathlib.Core.List.{[], _∷_}
 use Prim.Native.Nat.{ℕ, zero, suc, _+_, _-_, _*_, _/_, _%_, _≤_, _<_}
 use native.Mathlib.Omega.{arith}
 use lib.Dec.{ltb, eqb}
-use lib.ListN.{length, getD}
+use lib.ListN.{length}
 use borrow.Author.Tests.{ltb-true, ltb-false, eqb-true, eqb-false, eq-eqb, ne-eqb}
 use Rattle.answers.specs.Theory.Sound.{clash}
 use Rattle.rules.specs.Bytes.{Text, same}
@@ -66,12 +66,6 @@ unfolding textOf
 text-length h o zero = refl
 text-length h o (suc n) = ap suc (text-length h (o + 1) n)
 
-pub text-at : (h : ℕ → ℕ) (o n j : ℕ) → j < n → getD (textOf h o n) j 0 ≡ h (o + j)
-unfolding textOf
-text-at h o zero j l = absurd (omega arith)
-text-at h o (suc n) zero l = let e : o ≡ o + 0 = omega arith in ap h e
-text-at h o (suc n) (suc j) l = let e : o + 1 + j ≡ o + suc j = omega arith in text-at h (o + 1) n j (omega arith) ∙ ap h e
-
 -- the rest of a text from its byte i on
 pub text-step : (h : ℕ → ℕ) (a i len : ℕ) → i < len → textOf h (a + i) (len - i) ≡ h (a + i) ∷ textOf h (a + (i + 1)) (len - (i + 1))
 unfolding textOf
@@ -92,11 +86,23 @@ text-same h h′ o (suc n) e =
 -- ---- buckets
 
 abbrev pub bucketCount : ℕ
-bucketCount = 256
+bucketCount = 1024
 
--- by the length and three of the bytes
+abbrev pub hashBound : ℕ
+hashBound = 1048576
+
+-- what the bytes of a text come to, one behind the other
+unfoldable pub hashFrom : ℕ → Text → ℕ
+hashFrom h [] = h
+hashFrom h (b ∷ s) = hashFrom ((h * 31 + b) % hashBound) s
+
+abbrev pub bucketBy : ℕ → ℕ
+bucketBy h = (h + h / bucketCount) % bucketCount
+
+-- by all bytes of the text
 unfoldable pub bucketOf : Text → ℕ
-bucketOf s = (length s + 3 * getD s 0 0 + 7 * getD s (length s / 2) 0 + 31 * getD s (length s - 1) 0) % bucketCount
+unfolding hashFrom
+bucketOf s = bucketBy (hashFrom 0 s)
 
 pub bucket-small : (s : Text) → bucketOf s < bucketCount
 unfolding bucketOf

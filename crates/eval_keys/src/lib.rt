@@ -38,24 +38,30 @@ pub const NEXT: usize = FIRST + CAPACITY;
 pub const COLUMNS_END: usize = NEXT + CAPACITY;
 
 // How many buckets there are.
-const BUCKET_COUNT: usize = 256;
+const BUCKET_COUNT: usize = 1024;
+
+// How many numbers a text's bytes may come to, and what the bytes before one count by.
+const HASHES: usize = 1048576;
+
+const FACTOR: usize = 31;
 
 // ---- the number of a text
 
-// The bucket of a text: by its length and three of its bytes.
+// The bucket of a text: by all its bytes.
 fn bucket(texts: &[u8], at: TextAt, len: TextLen) -> usize
     requires { ⌜ Near (at .0) (len .0) ⌝ }
     ensures { λ r. ⌜ BucketIs (now (texts .entry)) (at .0) (len .0) r ⌝ }
 {
     let a = at.0;
     let n = len.0;
-    if n == 0 {
-        return 0;
+    let mut hash = 0;
+    let mut i = 0;
+    while i < n {
+        let b = text_byte(texts, TextAt(a + i)) as usize;
+        hash = (hash * FACTOR + b) % HASHES;
+        i += 1;
     }
-    let first = text_byte(texts, at) as usize;
-    let middle = text_byte(texts, TextAt(a + n / 2)) as usize;
-    let last = text_byte(texts, TextAt(a + (n - 1))) as usize;
-    (n + 3 * first + 7 * middle + 31 * last) % BUCKET_COUNT
+    (hash + hash / BUCKET_COUNT) % BUCKET_COUNT
 }
 
 // Whether two texts of one length are the same.
