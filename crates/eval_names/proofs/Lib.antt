@@ -1,2 +1,3 @@
-mod Building
+mod Comparing
+mod Names
 mod Asking

@@ -1,12 +1,14 @@
 -- What the functions promise: by the model for any bytes, and of a substitution that the table holds.
 use mathlib.Core.Path.{_≡_}
 use Prim.Native.Nat.{ℕ, _+_, _*_, _≤_, _<_}
-use mathlib.Core.List.{List, [], _++_}
-use mathlib.Core.Option.{none, some}
-use lib.ListN.{length, take, drop}
+use mathlib.Core.Bool.{Bool, false}
+use mathlib.Core.List.{List, [], _∷_, _++_}
+use mathlib.Core.Option.{Option, none, some}
+use lib.Dec.{eqb}
+use lib.ListN.{length, getD, drop}
 use lib.Seq.{slice}
 use Rattle.answers.specs.Ask.{value, refused}
-use Rattle.rules.specs.Bytes.{Text}
+use Rattle.rules.specs.Bytes.{Text, same}
 use Rattle.rules.specs.Refusals.{placed}
 use Rattle.rules.specs.Sizes.{maxEnvironment}
 use Rattle.rules.specs.Environment.{Variable, entriesOf, textOf}
@@ -18,41 +20,70 @@ use Rattle.theory.specs.SettledAnswers.{orEnvironmentIn}
 use Rattle.doc_items.specs.Room.{numberBound}
 use Rattle.doc_items.specs.Holds.{ReferenceAt}
 use Rattle.doc_items.specs.Parts.{numbers, letters}
-use Rattle.text_environment.specs.Contracts.{FindIs}
-use Rattle.text_environment.specs.declared.Found.{Found}
-use Rattle.eval_names.specs.Model.{elementC, elementsC, pathC, behindDots}
+use Rattle.eval_names.specs.Model.{elementC, pathC, behindDots}
 use Rattle.eval_names.specs.declared.Asked.{Asked}
+use Rattle.eval_names.specs.declared.Compared.{Compared}
+use Rattle.eval_names.specs.declared.Found.{Found}
 
--- Offsets in a job's bytes, and lengths of names with what is counted past their room: sums of them do not wrap.
+-- an offset in a job's bytes, and a length: sums of them do not wrap
 abbrev pub mostBytes : ℕ
 mostBytes = 1048576
 
-abbrev pub mostUsed : ℕ
-mostUsed = 4611686018427387904
+-- ---- a name beside a path
 
--- a text behind the first bytes of a name's room; what has no room is counted all the same
-pub record PutBehind (t : Text) (used : ℕ) (b a : List ℕ) (r : ℕ) : Type 0 where
-  pub size : r ≡ used + length t
-  pub stored : r ≤ length b → take r a ≡ take used b ++ t
+-- a dot stands before a byte of a name
+pub record DotIs (name : List ℕ) (used : ℕ) (r : Bool) : Type 0 where
+  pub is : r ≡ eqb (getD (46 ∷ name) used 0) 46
 
-pub record ElementIs (X : List ℕ) (at n used : ℕ) (b a : List ℕ) (r : ℕ) : Type 0 where
-  pub is : PutBehind (behindDots (elementC X at n [])) used b a r
+pub record CompareAsked (name : List ℕ) (used at n : ℕ) : Type 0 where
+  pub size : length name ≤ maxEnvironment
+  pub upto : used ≤ length name + 1
+  pub near : at ≤ mostBytes
+  pub short : n ≤ mostBytes
 
-pub record PathIs (X : List ℕ) (at ends count : ℕ) (b a : List ℕ) (r : ℕ) : Type 0 where
-  pub is : PutBehind (behindDots (elementsC X at ends count 0)) 0 b a r
+-- what is left of a dot and a name, beside an element and what stands behind it
+abbrev pub Compares : List ℕ → ℕ → ℕ → List ℕ → ℕ → Compared → Type 0
+Compares X at n name used (Compared.Same more) =
+    (more ≤ length name + 1)
+    × ((rest : Text) → same (drop used (46 ∷ name)) (behindDots (elementC X at n []) ++ rest) ≡ same (drop more (46 ∷ name)) rest)
+Compares X at n name used Compared.Different =
+    (rest : Text) → same (drop used (46 ∷ name)) (behindDots (elementC X at n []) ++ rest) ≡ false
 
--- the environment is within its size, and the name's room holds any name of an environment with a dot before it
-pub record BuiltAsked (env name : List ℕ) : Type 0 where
+pub record ComparedIs (X : List ℕ) (at n : ℕ) (name : List ℕ) (used : ℕ) (r : Compared) : Type 0 where
+  pub is : Compares X at n name used r
+
+-- the numbers of an item that a path has, and a name of an environment, which is not empty
+pub record PathAsked (name : List ℕ) (at len count : ℕ) : Type 0 where
+  pub some : 0 < length name
+  pub size : length name ≤ maxEnvironment
+  pub near : at < numberBound
+  pub short : len < numberBound
+  pub few : count < numberBound
+
+-- ---- a name's text
+
+pub record FindAsked (env : List ℕ) (at len count : ℕ) : Type 0 where
   pub size : length env ≤ maxEnvironment
-  pub room : maxEnvironment < length name
+  pub near : at < numberBound
+  pub short : len < numberBound
+  pub few : count < numberBound
 
--- what was built, with a dot before it
-pub record BuiltIs (env name : List ℕ) (used : ℕ) (r : Found) : Type 0 where
-  pub is : (t : Text) → used ≡ length t → (used ≤ length name → take used name ≡ t) → FindIs env (drop 1 t) r
+-- the text that an answer names
+abbrev pub foundText : List ℕ → Found → Option Text
+foundText s (Found.Text start size) = some (slice (start .0) (start .0 + size .0) s)
+foundText s Found.Nothing = none
 
-pub record NameAsked (env name : List ℕ) (i : ℕ) : Type 0 where
+abbrev pub FoundInside : ℕ → Found → Type 0
+FoundInside len (Found.Text start size) = start .0 + size .0 ≤ len
+FoundInside len Found.Nothing = Unit {0}
+
+-- the text of a name where the environment has entries; and what is answered stands inside the environment
+pub record FindIs (s n : List ℕ) (r : Found) : Type 0 where
+  pub is : (es : List Variable) → entriesOf s ≡ some es → foundText s r ≡ textOf es n
+  pub inside : FoundInside (length s) r
+
+pub record NameAsked (env : List ℕ) (i : ℕ) : Type 0 where
   pub size : length env ≤ maxEnvironment
-  pub room : maxEnvironment < length name
   pub item : i < numberBound
 
 pub record NameIs (T X env : List ℕ) (i : ℕ) (r : Found) : Type 0 where

@@ -1,5 +1,5 @@
-// The environment asked for the path of a substitution: "If undefined, the environment is asked for the elements joined by dots". The name is
-// built in a room of its own; one that has no room there is longer than any environment.
+// The environment asked for the path of a substitution: "If undefined, the environment is asked for the elements joined by dots". Each of its
+// names is compared with the elements where they stand.
 // Computes: Unresolved (orEnvironment, dotted)
 use codes::bytes;
 use doc_items::COLUMN_NUMBER;
@@ -10,19 +10,24 @@ use doc_items::OPTIONAL;
 use doc_items::PIECE;
 use doc_items::WIDTH;
 use doc_items::number_at;
-use eval_writer::fill;
 use sheet_kinds::text_pair;
 use text_chars::DocAt;
 use text_chars::EnvAt;
 use text_chars::EnvLen;
 use text_chars::TextAt;
 use text_chars::TextLen;
-use text_environment::Found;
-use text_environment::find;
+use text_environment::Parts;
+use text_environment::entry_at;
+use text_same::same_bytes;
 ghost use mathlib.Core.Path.{_≡_};
-ghost use Prim.Native.Nat.{_+_, _-_, _≤_, _<_};
-ghost use Rattle.doc_items.specs.Room.{numberBound};
-ghost use Rattle.eval_names.specs.Contracts.{mostBytes, mostUsed, ElementIs, PathIs, BuiltAsked, BuiltIs, NameAsked, NameIs, AskedIs};
+ghost use Prim.Native.Nat.{_+_, _-_, _≤_};
+ghost use lib.ListN.{length};
+ghost use Rattle.rules.specs.Bytes.{same};
+ghost use Rattle.rules.specs.Unresolved.{dotted};
+ghost use Rattle.eval_names.specs.Model.{elementsC};
+ghost use Rattle.eval_names.specs.Contracts.{DotIs, CompareAsked, ComparedIs, PathAsked, FindAsked, FindIs, NameAsked, NameIs, AskedIs};
+
+const DOT: u8 = bytes::DOT as u8;
 
 /// What a substitution comes to whose path is undefined.
 pub enum Asked {
@@ -41,30 +46,50 @@ fn between(from: usize, to: usize) -> usize
     if to < from { 0 } else { to - from }
 }
 
-// A dot and an element's text behind the first bytes of a name. What has no room is left out and counted; an element that does not lie in
-// the bytes is none.
-fn put_element(name: &mut [u8], used: usize, texts: &[u8], at: TextAt, len: TextLen) -> usize
-    requires { ⌜ (used ≤ mostUsed) × (at .0 ≤ mostBytes) × (len .0 ≤ mostBytes) ⌝ }
-    ensures { λ r. ⌜ ElementIs (now (texts .entry)) (at .0) (len .0) used (now (name .entry)) (now (name .exit)) r ⌝ }
+// An element of a path beside a name.
+enum Compared {
+    // they agree, and so many bytes of a dot and the name are passed
+    Same { used: usize },
+    // the name is another
+    Different,
+}
+
+// Whether a dot stands before a byte of a name: before its first one it always does.
+fn has_dot(name: &[u8], used: usize) -> bool
+    requires { ⌜ used ≤ length (now name) ⌝ }
+    ensures { λ r. ⌜ DotIs (now (name .entry)) used r ⌝ }
+{
+    if used == 0 {
+        return true;
+    }
+    name[used - 1] == DOT
+}
+
+// A dot and an element's text beside what is left of a dot and a name. An element that does not lie in the bytes is none.
+fn compare_element(name: &[u8], used: usize, texts: &[u8], at: TextAt, len: TextLen) -> Compared
+    requires { ⌜ CompareAsked (now name) used (at .0) (len .0) ⌝ }
+    ensures { λ r. ⌜ ComparedIs (now (texts .entry)) (at .0) (len .0) (now (name .entry)) used r ⌝ }
 {
     let f = at.0;
     let n = len.0;
     if texts.len() < f + n {
-        return used;
+        return Compared::Same { used };
     }
-    let end = used + 1 + n;
-    if name.len() < end {
-        return end;
+    if name.len() < used + n {
+        return Compared::Different;
     }
-    name[used] = bytes::DOT as u8;
-    fill(name, used + 1, texts, f, n);
-    end
+    if has_dot(name, used) {
+        if same_bytes(&name[used..used + n], &texts[f..f + n]) {
+            return Compared::Same { used: used + 1 + n };
+        }
+    }
+    Compared::Different
 }
 
-// The elements of a path, each behind a dot; how many bytes they have.
-fn put_path(name: &mut [u8], texts: &[u8], at: TextAt, len: TextLen, count: usize) -> usize
-    requires { ⌜ (at .0 < numberBound) × (len .0 < numberBound) × (count < numberBound) ⌝ }
-    ensures { λ r. ⌜ PathIs (now (texts .entry)) (at .0) (at .0 + len .0) count (now (name .entry)) (now (name .exit)) r ⌝ }
+// Whether a name is the elements of a path joined by dots.
+fn is_path(name: &[u8], texts: &[u8], at: TextAt, len: TextLen, count: usize) -> bool
+    requires { ⌜ PathAsked (now name) (at .0) (len .0) count ⌝ }
+    ensures { λ r. ⌜ r ≡ same (now (name .entry)) (dotted (elementsC (now (texts .entry)) (at .0) (at .0 + len .0) count 0)) ⌝ }
 {
     let start = at.0;
     let mut ends = start + len.0;
@@ -74,46 +99,73 @@ fn put_path(name: &mut [u8], texts: &[u8], at: TextAt, len: TextLen, count: usiz
     while 0 < left {
         let end = text_pair(texts, TextAt(ends));
         let n = between(from, end);
-        used = put_element(name, used, texts, TextAt(start + from), TextLen(n));
+        match compare_element(name, used, texts, TextAt(start + from), TextLen(n)) {
+            Compared::Different => {
+                return false;
+            }
+            Compared::Same { used: more } => {
+                used = more;
+            }
+        }
         from = end;
         ends += 2;
         left -= 1;
     }
-    used
+    used == name.len() + 1
 }
 
-// The text in an environment of a name that was built with a dot before it, so many bytes.
-fn find_built(env: &[u8], name: &[u8], used: usize) -> Found
-    requires { ⌜ BuiltAsked (now env) (now name) ⌝ }
-    ensures { λ r. ⌜ BuiltIs (now (env .entry)) (now (name .entry)) used r ⌝ }
+// What an environment has for a path.
+enum Found {
+    // its text, as a part of the environment
+    Text { start: EnvAt, size: EnvLen },
+    // no entry
+    Nothing,
+}
+
+// The text in an environment that is by its rule of a path's elements joined by dots: of the first of equal names.
+fn find_path(env: &[u8], texts: &[u8], path: TextAt, len: TextLen, count: usize) -> Found
+    requires { ⌜ FindAsked (now env) (path .0) (len .0) count ⌝ }
+    ensures { λ r. ⌜ FindIs (now (env .entry)) (dotted (elementsC (now (texts .entry)) (path .0) (path .0 + len .0) count 0)) r ⌝ }
 {
-    if name.len() < used {
-        return Found::Nothing;
+    let mut at = 0;
+    while at < env.len() {
+        match entry_at(env, EnvAt(at)) {
+            Parts::Broken => {
+                return Found::Nothing;
+            }
+            Parts::Whole { equals, zero } => {
+                let e = equals.0;
+                let z = zero.0;
+                if is_path(&env[at..e], texts, path, len, count) {
+                    return Found::Text {
+                        start: EnvAt(e + 1),
+                        size: EnvLen(z - e - 1),
+                    };
+                }
+                at = z + 1;
+            }
+        }
     }
-    if used == 0 {
-        return find(env, &name[0..0]);
-    }
-    find(env, &name[1..used])
+    Found::Nothing
 }
 
-// The text in an environment of the path of the substitution at item i: its elements joined by dots are the name.
-fn name_in(table: &[u16], texts: &[u8], env: &[u8], name: &mut [u8], i: usize) -> Found
-    requires { ⌜ NameAsked (now env) (now name) i ⌝ }
+// The text in an environment of the path of the substitution at item i.
+fn name_in(table: &[u16], texts: &[u8], env: &[u8], i: usize) -> Found
+    requires { ⌜ NameAsked (now env) i ⌝ }
     ensures { λ r. ⌜ NameIs (now (table .entry)) (now (texts .entry)) (now (env .entry)) i r ⌝ }
 {
     let at = number_at(table, WIDTH * i + COLUMN_TEXT);
     let len = number_at(table, WIDTH * i + COLUMN_TEXTLEN);
     let count = number_at(table, WIDTH * i + COLUMN_NUMBER);
-    let used = put_path(name, texts, TextAt(at), TextLen(len), count);
-    find_built(env, name, used)
+    find_path(env, texts, TextAt(at), TextLen(len), count)
 }
 
 /// What the substitution at item i comes to where its path is undefined.
-pub fn or_environment(table: &[u16], texts: &[u8], env: &[u8], name: &mut [u8], i: usize) -> Asked
-    requires { ⌜ NameAsked (now env) (now name) i ⌝ }
+pub fn or_environment(table: &[u16], texts: &[u8], env: &[u8], i: usize) -> Asked
+    requires { ⌜ NameAsked (now env) i ⌝ }
     ensures { λ r. ⌜ AskedIs (now (table .entry)) (now (texts .entry)) (now (env .entry)) i r ⌝ }
 {
-    match name_in(table, texts, env, name, i) {
+    match name_in(table, texts, env, i) {
         Found::Text { start, size } => Asked::Text { start, size },
         Found::Nothing => {
             if number_at(table, WIDTH * i) == PIECE + OPTIONAL {

@@ -42,8 +42,7 @@ fn of_environment(table: &[u16], texts: &[u8], env: &[u8], i: usize) -> Piece
     requires { ⌜ EnvironmentAsked (now env) i ⌝ }
     ensures { λ r. ⌜ EnvironmentIs (now (table .entry)) (now (texts .entry)) (now (env .entry)) i r ⌝ }
 {
-    let mut name = [0u8; limits::ENVIRONMENT + 1];
-    match or_environment(table, texts, env, &mut name, i) {
+    match or_environment(table, texts, env, i) {
         Asked::Text { start, size } => Piece::Text { start, size },
         Asked::Undefined => Piece::Undefined,
         Asked::Missing(place) => Piece::Missing(place),

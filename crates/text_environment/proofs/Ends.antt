@@ -2,7 +2,7 @@
 use mathlib.Core.Path.{_≡_, _∙_, ap}
 use mathlib.Core.List.{List, [], _∷_, _++_}
 use mathlib.Core.Option.{none}
-use Prim.Native.Nat.{ℕ, suc, _+_, _-_, _≤_, _<_}
+use Prim.Native.Nat.{ℕ, suc, _+_, _≤_, _<_}
 use native.Mathlib.Omega.{arith}
 use native.Mathlib.Numerals.{add-one}
 use lib.ListN.{length, take, drop, drop-of-length-le}
@@ -14,7 +14,7 @@ use Rattle.rules.specs.Sizes.{maxEnvironment}
 use Rattle.rules.specs.Bytes.{Text, byteAt}
 use Rattle.rules.specs.Environment.{withVariable, nameFrom, textFrom}
 use Rattle.text_chars.specs.Cursor.{ByteIs}
-use Rattle.text_environment.specs.Contracts.{env, NameEnd, NameEnds, TextEnd, TextEnds, EntryAt, EntryIs}
+use Rattle.text_environment.specs.Contracts.{env, NameEnd, NameEnds, TextEnd, TextEnds, EntryIs}
 use Rattle.text_chars.specs.declared.EnvAt.{EnvAt}
 use Rattle.text_environment.specs.declared.Stop.{Stop}
 use Rattle.text_environment.specs.declared.Parts.{Parts}
@@ -141,36 +141,8 @@ module _ {s : List ℕ} {at : ℕ} {r : Stop} (h : NameEnds s at r) where
         let j : TextEnd s (q .0 + 1) (Stop.At z) = rw f at (k .is) in
         record { is = (i .0, omega (arith, j .0), j .1, i .2 ∙ j .2 (slice at (q .0) s)) }
 
--- an entry's places, in order
-module _ {s : List ℕ} {at : ℕ} {r : Parts} (h : EntryIs s at r) {q z : EnvAt} (e : r ≡ Parts.Whole q z) where
-  ordered : (at < q .0) × (q .0 < z .0) × (z .0 < length s)
-  ordered = let i : EntryAt s at (Parts.Whole q z) = rw e at (h .is) in (i .0, i .1, i .2)
-
-  pub name-from : at ≤ q .0
-  name-from = omega (arith, ordered .0)
-
-  pub name-inside : q .0 ≤ length s
-  name-inside = omega (arith, ordered .1, ordered .2)
-
-  pub equals-fits : length s ≤ maxEnvironment → Fits w64 (q .0 + 1)
-  equals-fits l = record { fits = omega (arith, name-inside) }
-
-  pub zero-fits : length s ≤ maxEnvironment → Fits w64 (z .0 + 1)
-  zero-fits l = record { fits = omega (arith, ordered .2) }
-
-  pub equals-zero : q .0 ≤ z .0
-  equals-zero = omega (arith, ordered .1)
-
-  pub equals-before : 1 ≤ z .0 - q .0
-  equals-before = omega (arith, ordered .1)
-
-  pub zero-less : length s - (z .0 + 1) < length s - at
-  zero-less = omega (arith, ordered)
-
 pub ruleset names = (name-start, name-out, name-zero, name-empty, name-equals, name-more)
 
 pub ruleset texts = (text-start, text-out, text-zero, text-more)
 
 pub ruleset wholes = (arith, entry-unnamed, text-near, text-fits, entry-unended, entry-whole)
-
-pub ruleset places = (arith, name-from, name-inside, equals-fits, zero-fits, equals-zero, equals-before, zero-less)

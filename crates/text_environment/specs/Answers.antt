@@ -1,21 +1,22 @@
--- What the answers say, for the callers: of an environment that is by its rule, and of a name.
+-- What the answers say, for the callers: of an environment that is by its rule, and of an entry.
 use mathlib.Core.Path.{_≡_, refl, sym, _∙_}
-use Prim.Native.Nat.{ℕ, _+_, _≤_}
+use Prim.Native.Nat.{ℕ, _+_, _-_, _≤_, _<_}
 use mathlib.Core.Bool.{Bool, true, false}
 use mathlib.Core.List.{List, []}
 use mathlib.Core.Option.{Option, none, some}
+use native.Mathlib.Omega.{arith}
+use mir.Syntax.{w64}
+use mir.Val.{Fits}
 use lib.Dec.{leb}
 use lib.ListN.{length}
-use lib.Seq.{slice}
 use borrow.Author.Tests.{leb-true}
 use Rattle.rules.specs.Sizes.{maxEntries, maxEnvironment}
 use Rattle.rules.specs.Utf8.{illFormed}
-use Rattle.rules.specs.Environment.{Variable, nameFrom, atMost, entriesOf, textOf}
+use Rattle.rules.specs.Environment.{Variable, nameFrom, atMost, entriesOf}
 use Rattle.text_chars.specs.Clash.{clash}
-use Rattle.text_environment.specs.Contracts.{isSome, Inside, FindIs}
+use Rattle.text_environment.specs.Contracts.{isSome, EntryAt, EntryIs}
 use Rattle.text_chars.specs.declared.EnvAt.{EnvAt}
-use Rattle.text_chars.specs.declared.EnvLen.{EnvLen}
-use Rattle.text_environment.specs.declared.Found.{Found}
+use Rattle.text_environment.specs.declared.Parts.{Parts}
 
 -- ---- an environment that is by its rule, or not
 
@@ -57,15 +58,31 @@ accepted-is s es e = long (leb (length s) maxEnvironment) refl e
     long false l q = clash (cc)
     long true l q = (leb-true (length s) maxEnvironment l, ill (illFormed s) q)
 
--- ---- a name's text
+-- ---- an entry's places, in order
 
-module _ {s n : List ℕ} {r : Found} (h : FindIs s n r) where
-  pub found-inside : {start : EnvAt} {size : EnvLen} → r ≡ Found.Text start size → start .0 + size .0 ≤ length s
-  found-inside {start} {size} e = let i : Inside (length s) (Found.Text start size) = rw e at (h .inside) in i
+module _ {s : List ℕ} {at : ℕ} {r : Parts} (h : EntryIs s at r) {q z : EnvAt} (e : r ≡ Parts.Whole q z) where
+  ordered : (at < q .0) × (q .0 < z .0) × (z .0 < length s)
+  ordered = let i : EntryAt s at (Parts.Whole q z) = rw e at (h .is) in (i .0, i .1, i .2)
 
-  module _ {es : List Variable} (k : entriesOf s ≡ some es) where
-    pub found-is : {start : EnvAt} {size : EnvLen} → r ≡ Found.Text start size → textOf es n ≡ some (slice (start .0) (start .0 + size .0) s)
-    found-is e = sym (rw e at (h .is es k))
+  pub name-from : at ≤ q .0
+  name-from = omega (arith, ordered .0)
 
-    pub nothing-is : r ≡ Found.Nothing → textOf es n ≡ none
-    nothing-is e = sym (rw e at (h .is es k))
+  pub name-inside : q .0 ≤ length s
+  name-inside = omega (arith, ordered .1, ordered .2)
+
+  pub equals-fits : length s ≤ maxEnvironment → Fits w64 (q .0 + 1)
+  equals-fits l = record { fits = omega (arith, name-inside) }
+
+  pub zero-fits : length s ≤ maxEnvironment → Fits w64 (z .0 + 1)
+  zero-fits l = record { fits = omega (arith, ordered .2) }
+
+  pub equals-zero : q .0 ≤ z .0
+  equals-zero = omega (arith, ordered .1)
+
+  pub equals-before : 1 ≤ z .0 - q .0
+  equals-before = omega (arith, ordered .1)
+
+  pub zero-less : length s - (z .0 + 1) < length s - at
+  zero-less = omega (arith, ordered)
+
+pub ruleset places = (arith, name-from, name-inside, equals-fits, zero-fits, equals-zero, equals-before, zero-less)

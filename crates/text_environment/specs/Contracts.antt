@@ -7,10 +7,8 @@ use mathlib.Core.Option.{Option, none, some}
 use lib.ListN.{length, drop}
 use lib.Seq.{slice}
 use Rattle.rules.specs.Bytes.{Text}
-use Rattle.rules.specs.Environment.{Variable, withVariable, nameFrom, textFrom, atMost, entriesOf, textOf}
+use Rattle.rules.specs.Environment.{Variable, withVariable, nameFrom, textFrom, atMost}
 use Rattle.text_chars.specs.declared.EnvAt.{EnvAt}
-use Rattle.text_chars.specs.declared.EnvLen.{EnvLen}
-use Rattle.text_environment.specs.declared.Found.{Found}
 use Rattle.text_environment.specs.declared.Stop.{Stop}
 use Rattle.text_environment.specs.declared.Parts.{Parts}
 
@@ -20,9 +18,6 @@ isSome (some es) = true
 
 abbrev pub env : ℕ → EnvAt
 env at = record { 0 = at }
-
-abbrev pub bytesOf : ℕ → EnvLen
-bytesOf n = record { 0 = n }
 
 -- the entries from a place on, so many at most
 abbrev pub entries : ℕ → List ℕ → ℕ → Option (List Variable)
@@ -57,17 +52,3 @@ EntryAt s at Parts.Broken = nameFrom [] (drop at s) ≡ none
 
 pub record EntryIs (s : List ℕ) (at : ℕ) (r : Parts) : Type 0 where
   pub is : EntryAt s at r
-
--- the text that an answer names
-abbrev pub foundText : List ℕ → Found → Option Text
-foundText s (Found.Text start size) = some (slice (start .0) (start .0 + size .0) s)
-foundText s Found.Nothing = none
-
-abbrev pub Inside : ℕ → Found → Type 0
-Inside len (Found.Text start size) = start .0 + size .0 ≤ len
-Inside len Found.Nothing = Unit {0}
-
--- the text of a name where the environment has entries; and what is answered stands inside the environment
-pub record FindIs (s n : List ℕ) (r : Found) : Type 0 where
-  pub is : (es : List Variable) → entriesOf s ≡ some es → foundText s r ≡ textOf es n
-  pub inside : Inside (length s) r

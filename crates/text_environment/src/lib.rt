@@ -1,28 +1,18 @@
-// The environment's reader: whether an environment is by its rule, and the text of a name. An entry is a name that is not empty,
+// The environment's reader: whether an environment is by its rule, and its entries one by one. An entry is a name that is not empty,
 // then `=`, a text, and a zero byte.
 // Computes: Environment
 use codes::bytes;
 use codes::limits;
 use text_chars::EnvAt;
-use text_chars::EnvLen;
 use text_chars::Ill;
 use text_chars::env_byte;
 use text_chars::ill_formed;
-use text_same::same_bytes;
 ghost use mathlib.Core.Path.{_≡_};
 ghost use Prim.Native.Nat.{_≤_, _<_};
 ghost use lib.ListN.{length};
 ghost use Rattle.rules.specs.Sizes.{maxEnvironment, maxEntries};
 ghost use Rattle.rules.specs.Environment.{entriesOf};
-ghost use Rattle.text_environment.specs.Contracts.{isSome, entries, NameEnds, TextEnds, EntryIs, FindIs};
-
-/// What an environment has for a name.
-pub enum Found {
-    // its text, as a part of the environment
-    Text { start: EnvAt, size: EnvLen },
-    // no entry
-    Nothing,
-}
+ghost use Rattle.text_environment.specs.Contracts.{isSome, entries, NameEnds, TextEnds, EntryIs};
 
 // Where a name or a text ends.
 enum Stop {
@@ -32,8 +22,8 @@ enum Stop {
     Nowhere,
 }
 
-// The entry at a place.
-enum Parts {
+/// The entry at a place.
+pub enum Parts {
     // the places of its `=` and its zero byte
     Whole { equals: EnvAt, zero: EnvAt },
     // it is against the rule
@@ -80,8 +70,8 @@ fn text_end(env: &[u8], at: EnvAt) -> Stop
     Stop::Nowhere
 }
 
-// The entry at a place.
-fn entry_at(env: &[u8], at: EnvAt) -> Parts
+/// The entry at a place.
+pub fn entry_at(env: &[u8], at: EnvAt) -> Parts
     requires { ⌜ (length (now env) ≤ maxEnvironment) × (at .0 < length (now env)) ⌝ }
     ensures { λ r. ⌜ EntryIs (now (env .entry)) (at .0) r ⌝ }
 {
@@ -133,31 +123,4 @@ pub fn is_valid(env: &[u8]) -> bool
         Ill::At(place) => false,
         Ill::Nowhere => are_entries(env),
     }
-}
-
-/// The text of a name in an environment that is by its rule: of the first of equal names.
-pub fn find(env: &[u8], name: &[u8]) -> Found
-    requires { ⌜ length (now env) ≤ maxEnvironment ⌝ }
-    ensures { λ r. ⌜ FindIs (now (env .entry)) (now (name .entry)) r ⌝ }
-{
-    let mut at = 0;
-    while at < env.len() {
-        match entry_at(env, EnvAt(at)) {
-            Parts::Broken => {
-                return Found::Nothing;
-            }
-            Parts::Whole { equals, zero } => {
-                let e = equals.0;
-                let z = zero.0;
-                if same_bytes(&env[at..e], name) {
-                    return Found::Text {
-                        start: EnvAt(e + 1),
-                        size: EnvLen(z - e - 1),
-                    };
-                }
-                at = z + 1;
-            }
-        }
-    }
-    Found::Nothing
 }

@@ -8,7 +8,6 @@ pub of-environment-spec : {M : Type 1} → statement M
 of-environment-spec =
     tie.close
     (tie.spec
-    (λ c. search needs)
     (λ c κs. search needs)
     (λ c. search needs)
     (λ c. search needs)

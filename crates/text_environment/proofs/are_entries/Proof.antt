@@ -1,5 +1,5 @@
 -- laws: (counts, places)
-use Rattle.text_environment.proofs.Ends.{places}
+use Rattle.text_environment.specs.Answers.{places}
 use Rattle.text_environment.proofs.Counts.{counts}
 use Rattle.text_environment.proofs.Counts.{Counting}
 use Prim.Native.Nat.{_-_}

@@ -4,6 +4,9 @@ use borrow.Author.Needs.{needs}
 use Rattle.text_environment.proofs.is_valid.Statement.{statement}
 use Rattle.text_environment.proofs.is_valid.Tie as tie
 
+returns-2 : tie.Need-returns-2
+returns-2 c = search valids
+
 pub is-valid-spec : {M : Type 1} → statement M
 is-valid-spec =
     tie.close
@@ -13,5 +16,5 @@ is-valid-spec =
     (λ c. search needs)
     (λ c. search needs)
     (λ c κs. search needs)
-    (λ c. search valids)
+    returns-2
     (λ c. search valids))

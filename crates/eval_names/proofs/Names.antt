@@ -1,21 +1,27 @@
--- One law for each answer of the functions that look for a name.
+-- One law for each answer of the function that looks for a name.
 use mathlib.Core.Path.{_≡_, refl, sym, _∙_, ap}
 use mathlib.Core.Bool.{Bool, true, false}
 use mathlib.Core.List.{List, [], _∷_}
 use mathlib.Core.Option.{Option, none, some}
-use Prim.Native.Nat.{ℕ, _+_, _-_, _≤_}
+use Prim.Native.Nat.{ℕ, _+_, _-_, _≤_, _<_}
 use native.Mathlib.Omega.{arith}
-use lib.ListN.{length, take, drop, drop-of-length-le}
-use lib.Seq.{slice}
+use lib.ListN.{length, take, drop, length-drop, drop-of-length-le}
+use lib.Seq.{slice, length-take-le}
+use Rattle.rules.specs.Sizes.{maxEnvironment}
 use Rattle.rules.specs.Bytes.{same}
 use Rattle.rules.specs.Environment.{Variable, withVariable, nameFrom, entriesOf, textOf}
 use Rattle.text_chars.specs.Parts.{part-slice}
-use Rattle.text_environment.specs.Contracts.{env, bytesOf, EntryAt, EntryIs, FindIs}
+use Rattle.text_environment.specs.Contracts.{env, EntryAt, EntryIs}
+use Rattle.text_environment.specs.Answers.{accepted-is}
+use Rattle.text_environment.specs.declared.Parts.{Parts}
 use Rattle.text_chars.specs.Clash.{clash}
-use Rattle.text_environment.specs.Answers.{accepted-is}
 use Rattle.text_chars.specs.declared.EnvAt.{EnvAt}
-use Rattle.text_environment.specs.declared.Parts.{Parts}
-use Rattle.text_environment.specs.declared.Found.{Found}
+use Rattle.text_chars.specs.declared.EnvLen.{EnvLen}
+use Rattle.eval_names.specs.Contracts.{FindIs}
+use Rattle.eval_names.specs.declared.Found.{Found}
+
+abbrev bytesOf : ℕ → EnvLen
+bytesOf n = record { 0 = n }
 
 -- an entry and others behind it
 with-inv : (e : Variable) (o : Option (List Variable)) (es : List Variable) → withVariable e o ≡ some es
@@ -77,6 +83,16 @@ module _ {s n : List ℕ} {at : ℕ} (L : Looking s n at) where
       pub name-inside : q .0 ≤ length s
       name-inside = omega (arith, i .1, i .2)
 
+      name-size : length (take (q .0 - at) (drop at s)) ≡ q .0 - at
+      name-size = length-take-le (q .0 - at) (drop at s) (omega (arith, i .1, i .2, length-drop at s))
+
+      -- and is not empty
+      pub name-some : 0 < length (take (q .0 - at) (drop at s))
+      name-some = omega (arith, name-size, i .0)
+
+      pub name-short : length s ≤ maxEnvironment → length (take (q .0 - at) (drop at s)) ≤ maxEnvironment
+      name-short l = omega (arith, name-size, i .1, i .2)
+
       pub look-found : {f : Bool} → f ≡ same (take (q .0 - at) (drop at s)) n → f ≡ true
           → FindIs s n (Found.Text (env (q .0 + 1)) (bytesOf (z .0 - q .0 - 1)))
       look-found k g =
@@ -92,4 +108,4 @@ module _ {s n : List ℕ} {at : ℕ} (L : Looking s n at) where
         to = omega (arith, i .2);
       }
 
-pub ruleset looks = (look-start, look-end, look-broken, name-low, name-inside, look-found, look-next)
+pub ruleset looks = (arith, look-start, look-end, look-broken, name-low, name-inside, name-some, name-short, look-found, look-next)
