@@ -76,7 +76,7 @@ pub ruleset bytes-laws = (comparing-start, comparing-step, comparing-differs, co
 
 module _ {room : List ℕ} {o : Out} {t : ℕ} {p text : List ℕ} (A : LayAsked room o t p text) where
   holds : (key : ℕ → Text) (v : Held) → InRoom key v room o → Holds key v room (o .rec .0)
-  holds key v i = record { from = 0; stands = i .records; few = i .few }
+  holds key v i = record { from = 0; stands = i .records; few = i .few; short = omega (arith, A .full .rec) }
 
   -- the texts compared are the value's
   texts-same : (key : ℕ → Text) (v : Held) → InRoom key v room o → {r : Bool} → EqIs t (take (o .text .0) (drop maxRecords room)) text r

@@ -8,6 +8,7 @@ use lib.ListN.{length, getD}
 use lib.Dec.{eqb}
 use Rattle.rules.specs.Sheet.{two}
 use Rattle.sheet_kept.specs.InTurn.{Word, extent}
+use Rattle.sheet_forms.specs.Model.{pairC}
 use Rattle.sheet_forms.specs.Contracts.{ShapeIs}
 use Rattle.sheet_forms.specs.declared.Shape.{Shape}
 use Rattle.eval_writer.specs.Contracts.{Wrote}
@@ -68,11 +69,12 @@ pub held-members : {n : ℕ} {T s : List ℕ} {tb k p m : ℕ} {o : Out} {b x a 
 unfolding two
 held-members {n} {T} {s} {tb} {k} {p} {m} {o} {b} {x} {a} {r} {r′} z h w H =
     let t = o .text .0 in
+    let i = pairC s (p + 1) in
     let M = copyMs (λ q u. copyV (n - 1) T s tb q u) T s (eqb k 7) m (p + 3) t in
-    let y : under (then (act (k ∷ two m) [] (p + 3)) M) ≡ copyH n T s tb k p t =
-    ap (λ (j : ℕ). under (then (act (k ∷ two j) [] (p + 3)) (copyMs (λ q u. copyV (n - 1) T s tb q u) T s (eqb k 7) j (p + 3) t))) (h .count .is) ∙ sym (held-step n T s tb k p t z) in
+    let y : under (then (act (k ∷ two i) [] (p + 3)) M) ≡ copyH n T s tb k p t =
+    ap (λ (j : ℕ). under (then (act (k ∷ two i) [] (p + 3)) (copyMs (λ q u. copyV (n - 1) T s tb q u) T s (eqb k 7) j (p + 3) t))) (h .count) ∙ sym (held-step n T s tb k p t z) in
     let c = w .is in
-    let g : Wrote (k ∷ two m ++ M .xs) (M .ws) o (r .out) b a = head-wrote {hs = k ∷ two m} (h .head) refl (c .is) in
+    let g : Wrote (k ∷ two i ++ M .xs) (M .ws) o (r .out) b a = head-wrote {hs = k ∷ two i} (h .head) refl (c .is) in
     let d : max 0 (M .deep) + 1 ≡ copyH n T s tb k p t .deep = ap (λ (q : Act). q .deep) y in
     let f : r .deep ≡ M .deep = c .deep in
     record {

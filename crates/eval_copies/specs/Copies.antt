@@ -10,20 +10,20 @@ use lib.Dec.{eqb}
 use borrow.Author.Tests.{le-leb}
 use Rattle.rules.specs.Bytes.{Text}
 use Rattle.rules.specs.Tree.{Scalar, null, boolean, number, string}
-use Rattle.rules.specs.Values.{ownText, textSize, nestingOf, deepestValue, deepestMember}
+use Rattle.rules.specs.Values.{ownText, valueRecordSizes, memberRecordSizes, textSize, nestingOf, deepestValue, deepestMember}
 use Rattle.rules.specs.Sheet.{two, textRecord, scalarRecord, texts, valueTexts, memberTexts}
 use Rattle.theory.specs.Layout.{two-back, length-texts}
 use Rattle.sheet_kept.specs.Kept.{Held, simple, listed, keyed, Helds, no-helds, also, HeldFields, no-fields, field, named, namedAll, namedFields}
 use Rattle.sheet_kept.specs.Kept.{countHelds, countFields, keyRecord, kept, keptAll, keptFields}
 use Rattle.sheet_kept.specs.InTurn.{flatScalar, flat, flatAll, flatFields, Word, wordsRec, wordsOf, extent}
-use Rattle.sheet_kept.specs.Sizes.{kept-length, kept-some, all-count, fields-count, words-append, value-extent}
+use Rattle.sheet_kept.specs.Sizes.{kept-length, kept-some, all-records, fields-records, words-append, value-extent}
 use Rattle.sheet_kept.specs.Standing.{Stands, stands-left, stands-right, stands-in}
-use Rattle.sheet_forms.specs.Model.{shapeOf}
-use Rattle.sheet_forms.specs.Sheet.{at-0, at-n}
+use Rattle.sheet_forms.specs.Model.{shapeOf, pairC, membersC}
+use Rattle.sheet_forms.specs.Ends.{at-0, at-n, array-members, object-members}
 use Rattle.sheet_forms.specs.declared.Shape.{Shape}
 use Rattle.eval_writer.specs.Model.{wordAt}
 use Rattle.eval_writer.specs.Keys.{KeyIn, KeysIn, AllKeysIn, FieldKeysIn}
-use Rattle.eval_records.specs.Model.{Act, act, then, under, pairC, keyC, copyK, plainC, wordC}
+use Rattle.eval_records.specs.Model.{Act, act, then, under, keyC, copyK, plainC, wordC}
 use Rattle.eval_copies.specs.Model.{copyM, copyMs, copyV}
 use Rattle.eval_copies.specs.Steps.{held-step, members-step}
 
@@ -65,14 +65,14 @@ module _ (key : ℕ → Text) (T s : List ℕ) (tb : ℕ) where
   scalar-read (number x) n p t u h = word-read n p t u 4 x refl h
   scalar-read (string x) n p t u h = word-read n p t u 5 x refl h
 
-  head-read : (n p t b c : ℕ) (ys rest : List ℕ) (R : Act) → shapeOf b ≡ Shape.Head → drop p s ≡ (b ∷ two c ++ ys) ++ rest → c < 65536
-      → copyMs (λ q u. copyV n T s tb q u) T s (eqb b 7) c (p + 3) t ≡ R → copyV (suc n) T s tb p t ≡ under (then (act (b ∷ two c) [] (p + 3)) R)
+  head-read : (n p t b m c : ℕ) (ys rest : List ℕ) (R : Act) → shapeOf b ≡ Shape.Head → drop p s ≡ (b ∷ two m ++ ys) ++ rest → m < 65536 → membersC s p ≡ c
+      → copyMs (λ q u. copyV n T s tb q u) T s (eqb b 7) c (p + 3) t ≡ R → copyV (suc n) T s tb p t ≡ under (then (act (b ∷ two m) [] (p + 3)) R)
   unfolding copyV two
-  head-read n p t b c ys rest R k h l e =
-      let r = (b ∷ c / 256 % 256 ∷ c % 256 ∷ ys) ++ rest in
-      let a : pairC s (p + 1) ≡ c = pair-read r p 1 h ∙ two-back c l in
+  head-read n p t b m c ys rest R k h l j e =
+      let r = (b ∷ m / 256 % 256 ∷ m % 256 ∷ ys) ++ rest in
+      let a : pairC s (p + 1) ≡ m = pair-read r p 1 h ∙ two-back m l in
       let f : suc n - 1 ≡ n = omega arith in
-      rw (at-0 s p r h, k) (held-step (suc n) T s tb b p t (λ z. omega arith) ∙ rw (a, f) (ap (λ (q : Act). under (then (act (b ∷ two c) [] (p + 3)) q)) e))
+      rw (at-0 s p r h, k) (held-step (suc n) T s tb b p t (λ z. omega arith) ∙ rw (a, j, f) (ap (λ (q : Act). under (then (act (b ∷ two m) [] (p + 3)) q)) e))
 
   -- one member more
   more-read : (val : ℕ → ℕ → Act) (fs : Bool) (c p t : ℕ) (M R : Act) → p < length s → copyM val T s fs p t ≡ M
@@ -121,26 +121,28 @@ module _ (key : ℕ → Text) (T s : List ℕ) (tb : ℕ) where
     copy-read (simple x) n p t u d k h = scalar-read x n p t u h
     copy-read (listed vs) zero p t u d k h = absurd (omega arith)
     copy-read (listed vs) (suc n) p t u d k h =
-        let c = countHelds vs in
+        let m = valueRecordSizes (namedAll key vs) in
         let ys = keptAll key u vs in
         let R = acted (keptAll key t vs) (wordsOf (flatAll key vs)) (p + 3 + length (keptAll key t vs)) (deepestValue (namedAll key vs)) in
         let i : max 0 (deepestValue (namedAll key vs)) + 1 ≡ suc (deepestValue (namedAll key vs)) = omega arith in
         let e : p + 3 + length (keptAll key t vs) ≡ p + suc (suc (suc (length (keptAll key t vs)))) = omega arith in
-        head-read n p t 6 c ys (h .rest) R head-6 (h .records) (omega (arith, all-count key u vs, h .few))
-        (copy-all vs n (p + 3) t u (omega arith) k (stands-body 6 c ys (valueTexts (namedAll key vs)) p u h))
-        ∙ ap (λ (q : ℕ). acted (6 ∷ two c ++ keptAll key t vs) (wordsOf (flatAll key vs)) q (max 0 (deepestValue (namedAll key vs)) + 1)) e
-        ∙ ap (acted (6 ∷ two c ++ keptAll key t vs) (wordsOf (flatAll key vs)) (p + suc (suc (suc (length (keptAll key t vs)))))) i
+        head-read n p t 6 m (countHelds vs) ys (h .rest) R head-6 (h .records) (omega (arith, all-records key u vs, h .few))
+        (array-members s p key u (h .rest) vs (h .records) (h .few))
+        (copy-all vs n (p + 3) t u (omega arith) k (stands-body 6 m ys (valueTexts (namedAll key vs)) p u h))
+        ∙ ap (λ (q : ℕ). acted (6 ∷ two m ++ keptAll key t vs) (wordsOf (flatAll key vs)) q (max 0 (deepestValue (namedAll key vs)) + 1)) e
+        ∙ ap (acted (6 ∷ two m ++ keptAll key t vs) (wordsOf (flatAll key vs)) (p + suc (suc (suc (length (keptAll key t vs)))))) i
     copy-read (keyed ms) zero p t u d k h = absurd (omega arith)
     copy-read (keyed ms) (suc n) p t u d k h =
-        let c = countFields ms in
+        let m = memberRecordSizes (namedFields key ms) in
         let ys = keptFields key u ms in
         let R = acted (keptFields key t ms) (wordsOf (flatFields key ms)) (p + 3 + length (keptFields key t ms)) (deepestMember (namedFields key ms)) in
         let i : max 0 (deepestMember (namedFields key ms)) + 1 ≡ suc (deepestMember (namedFields key ms)) = omega arith in
         let e : p + 3 + length (keptFields key t ms) ≡ p + suc (suc (suc (length (keptFields key t ms)))) = omega arith in
-        head-read n p t 7 c ys (h .rest) R head-7 (h .records) (omega (arith, fields-count key u ms, h .few))
-        (copy-fields ms n (p + 3) t u (omega arith) k (stands-body 7 c ys (memberTexts (namedFields key ms)) p u h))
-        ∙ ap (λ (q : ℕ). acted (7 ∷ two c ++ keptFields key t ms) (wordsOf (flatFields key ms)) q (max 0 (deepestMember (namedFields key ms)) + 1)) e
-        ∙ ap (acted (7 ∷ two c ++ keptFields key t ms) (wordsOf (flatFields key ms)) (p + suc (suc (suc (length (keptFields key t ms)))))) i
+        head-read n p t 7 m (countFields ms) ys (h .rest) R head-7 (h .records) (omega (arith, fields-records key u ms, h .few))
+        (object-members s p key u (h .rest) ms (h .records) (h .few))
+        (copy-fields ms n (p + 3) t u (omega arith) k (stands-body 7 m ys (memberTexts (namedFields key ms)) p u h))
+        ∙ ap (λ (q : ℕ). acted (7 ∷ two m ++ keptFields key t ms) (wordsOf (flatFields key ms)) q (max 0 (deepestMember (namedFields key ms)) + 1)) e
+        ∙ ap (acted (7 ∷ two m ++ keptFields key t ms) (wordsOf (flatFields key ms)) (p + suc (suc (suc (length (keptFields key t ms)))))) i
 
     pub copy-all : (vs : Helds) (n p t u : ℕ) → deepestValue (namedAll key vs) ≤ n → AllKeysIn key T s vs → Stands s tb (keptAll key u vs) (valueTexts (namedAll key vs)) p u
         → copyMs (λ q u. copyV n T s tb q u) T s false (countHelds vs) p t ≡ acted (keptAll key t vs) (wordsOf (flatAll key vs)) (p + length (keptAll key t vs)) (deepestValue (namedAll key vs))

@@ -6,9 +6,9 @@ use lib.ListN.{length, getD}
 use lib.Dec.{leb, eqb}
 use Rattle.rules.specs.Sheet.{two}
 use Rattle.sheet_kept.specs.InTurn.{extent}
-use Rattle.sheet_forms.specs.Model.{shapeOf}
+use Rattle.sheet_forms.specs.Model.{shapeOf, pairC, membersC}
 use Rattle.sheet_forms.specs.declared.Shape.{Shape}
-use Rattle.eval_records.specs.Model.{Act, act, then, under, pairC, copyK, plainC, wordC}
+use Rattle.eval_records.specs.Model.{Act, act, then, under, copyK, plainC, wordC}
 
 -- a member, and so many
 unfoldable pub copyM : (ℕ → ℕ → Act) → List ℕ → List ℕ → Bool → ℕ → ℕ → Act
@@ -35,7 +35,7 @@ copyH zero T s tb b p t = act [] [] (p + 1)
 copyH (suc n) T s tb b p t =
     under
     (then (act (b ∷ two (pairC s (p + 1))) [] (p + 3))
-    (copyMs (λ q u. copyBy (λ c r w. copyH n T s tb c r w) s tb (getD s q 0) q u (shapeOf (getD s q 0))) T s (eqb b 7) (pairC s (p + 1)) (p + 3) t))
+    (copyMs (λ q u. copyBy (λ c r w. copyH n T s tb c r w) s tb (getD s q 0) q u (shapeOf (getD s q 0))) T s (eqb b 7) (membersC s p) (p + 3) t))
 
 -- the value at p, so many levels deep
 unfoldable pub copyV : ℕ → List ℕ → List ℕ → ℕ → ℕ → ℕ → Act

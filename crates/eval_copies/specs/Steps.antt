@@ -9,16 +9,17 @@ use lib.Dec.{eqb}
 use borrow.Author.Tests.{le-leb, lt-leb}
 use Rattle.rules.specs.Sheet.{two}
 use Rattle.sheet_kept.specs.InTurn.{extent}
-use Rattle.eval_records.specs.Model.{Act, act, then, under, pairC}
+use Rattle.sheet_forms.specs.Model.{pairC, membersC}
+use Rattle.eval_records.specs.Model.{Act, act, then, under}
 use Rattle.eval_copies.specs.Model.{copyM, copyMs, copyH, copyV}
 
 pub held-step : (n : ℕ) (T s : List ℕ) (tb k p t : ℕ) → (n ≡ 0 → ⊥)
-    → copyH n T s tb k p t ≡ under (then (act (k ∷ two (pairC s (p + 1))) [] (p + 3)) (copyMs (λ q u. copyV (n - 1) T s tb q u) T s (eqb k 7) (pairC s (p + 1)) (p + 3) t))
+    → copyH n T s tb k p t ≡ under (then (act (k ∷ two (pairC s (p + 1))) [] (p + 3)) (copyMs (λ q u. copyV (n - 1) T s tb q u) T s (eqb k 7) (membersC s p) (p + 3) t))
 unfolding copyH copyV
 held-step zero T s tb k p t z = absurd (z refl)
 held-step (suc n) T s tb k p t z =
     let e : n ≡ suc n - 1 = omega arith in
-    ap (λ (m : ℕ). under (then (act (k ∷ two (pairC s (p + 1))) [] (p + 3)) (copyMs (λ q u. copyV m T s tb q u) T s (eqb k 7) (pairC s (p + 1)) (p + 3) t))) e
+    ap (λ (m : ℕ). under (then (act (k ∷ two (pairC s (p + 1))) [] (p + 3)) (copyMs (λ q u. copyV m T s tb q u) T s (eqb k 7) (membersC s p) (p + 3) t))) e
 
 pub members-step : (val : ℕ → ℕ → Act) (T s : List ℕ) (keyed : Bool) (left p t : ℕ) → 0 < left → p < length s
     → copyMs val T s keyed left p t

@@ -1,29 +1,25 @@
 -- A law for each place where a function returns.
 use mathlib.Core.Path.{_≡_, refl, sym, ap, _∙_, subst}
-use Prim.Native.Nat.{ℕ, _+_, _-_, _/_, _%_, _≤_, _<_}
+use Prim.Native.Nat.{ℕ, _+_, _-_, _≤_, _<_}
 use mathlib.Core.Bool.{false}
-use mathlib.Core.List.{List, _∷_, _++_}
+use mathlib.Core.List.{List}
 use native.Mathlib.Omega.{arith}
-use lib.ListN.{drop}
 use Rattle.answers.specs.Ask.{value}
 use Rattle.answers.specs.Theory.Sound.{clash}
 use Rattle.rules.specs.Bytes.{Text}
 use Rattle.rules.specs.Sizes.{maxRoom, maxUnresolved}
 use Rattle.rules.specs.Tree.{heightOf}
-use Rattle.rules.specs.Values.{Values, arrayOf, deepestValue, nestingOf, recordSize, textSize}
+use Rattle.rules.specs.Values.{Values, arrayOf, deepestValue, nestingOf, recordSize, valueRecordSizes, textSize}
 use Rattle.rules.specs.Sheet.{two, texts, valueTexts}
-use Rattle.theory.specs.Layout.{two-back}
 use Rattle.doc_items.specs.Room.{capacity, textRoom, sheetAt, trailAt}
 use Rattle.sheet_kept.specs.Kept.{Held, simple, listed, keyed, Helds, named, namedAll, countHelds, kept, keptAll}
-use Rattle.sheet_kept.specs.Sizes.{all-count}
 use Rattle.sheet_kept.specs.Standing.{Stands}
-use Rattle.sheet_forms.specs.Sheet.{at-n}
+use Rattle.sheet_forms.specs.Model.{membersC}
+use Rattle.sheet_forms.specs.Ends.{array-members}
 use Rattle.eval_writer.specs.Keys.{KeysIn}
 use Rattle.eval_writer.specs.Building.{WrittenAll}
 use Rattle.eval_writer.specs.declared.Out.{Out}
 use Rattle.eval_writer.specs.declared.Source.{Source}
-use Rattle.eval_records.specs.Model.{pairC}
-use Rattle.eval_records.specs.Contracts.{PairIs}
 use Rattle.eval_records.specs.declared.Copied.{Copied}
 use Rattle.eval_copies.specs.Contracts.{MembersIs}
 use Rattle.eval_copies.specs.Copies.{copy-all, stands-body}
@@ -44,14 +40,6 @@ use Rattle.eval_tables.specs.Finished.{SettledAt}
 
 -- ---- a finished array
 
--- its count
-count-read : (X : List ℕ) (p c : ℕ) (ys : List ℕ) (rest : List ℕ) → drop p X ≡ (6 ∷ two c ++ ys) ++ rest → c < 65536 → pairC X (p + 1) ≡ c
-unfolding two
-count-read X p c ys rest h l =
-    let xs = (6 ∷ c / 256 % 256 ∷ c % 256 ∷ ys) ++ rest in
-    let e : p + 1 + 1 ≡ p + 2 = omega arith in
-    rw (e, at-n X p xs h 1, at-n X p xs h 2) (two-back c l)
-
 clip-within : {o : Out} {d : ℕ} {e : Extent} → ClipIs o d e → Bounded e
 clip-within c = record { out = record { rec = omega (arith, c .out .rec); text = omega (arith, c .out .text) }; deep = omega (arith, c .deep) }
 
@@ -71,16 +59,15 @@ firstOf at o = record { next = record { 0 = trailAt + at + 3 }; out = o; deep = 
 pub elements-far : {T B : List ℕ} {at : ℕ} {o : Out} {b : List ℕ} → NotPast o → maxRoom < at → FinishedIs T B at o (Made.Done 0 (record { out = o; deep = 0 })) b b
 elements-far p l = record { is = λ key n vs u h d e k s. absurd (omega arith); within = record { out = p; deep = omega arith } }
 
-pub elements-copied : {T B : List ℕ} {at count : ℕ} {o : Out} {c : Copied} {x : Extent} {b a : List ℕ} → PairIs B (trailAt + at + 1) count
+pub elements-copied : {T B : List ℕ} {at count : ℕ} {o : Out} {c : Copied} {x : Extent} {b a : List ℕ} → count ≡ membersC B (trailAt + at)
     → MembersIs 32 T B sheetAt false count (firstOf at o) c b a → ClipIs (c .out) (c .deep) x → FinishedIs T B at o (Made.Done count x) b a
 unfolding kept named texts two
 elements-copied {T} {B} {at} {count} {o} {c} {x} {b} {a} q m z = record {
   is = λ key n vs u l d e k s.
       let p = trailAt + at in
       let ys = keptAll key u vs in
-      let f : count ≡ countHelds vs =
-      q .is ∙ count-read B p (countHelds vs) ys (s .rest) (s .records) (omega (arith, all-count key u vs, s .few)) in
-      let body = stands-body key T B sheetAt 6 (countHelds vs) ys (valueTexts (namedAll key vs)) p u s in
+      let f : count ≡ countHelds vs = q ∙ array-members B p key u (s .rest) vs (s .records) (s .few) in
+      let body = stands-body key T B sheetAt 6 (valueRecordSizes (namedAll key vs)) ys (valueTexts (namedAll key vs)) p u s in
       let h = rw (f, copy-all key T B sheetAt vs 32 (p + 3) (o .text .0) u d k body) at (m .is) in
       record { is = record { helds = vs; is = refl; keys = e; counted = f; came = came-all (record { is = h .is }) (h .deep) z } };
   within = clip-within z;

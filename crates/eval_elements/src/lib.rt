@@ -6,13 +6,13 @@ use eval_copies::copy_members;
 use eval_extents::Extent;
 use eval_extents::clip;
 use eval_records::Copied;
-use eval_records::pair_at;
 use eval_values::LEVELS;
 use eval_values::elements_value;
 use eval_worked::Made;
 use eval_writer::Out;
 use eval_writer::Source;
 use sheet_forms::HEAD;
+use sheet_forms::count_members;
 use text_chars::RecAt;
 use text_chars::TextAt;
 ghost use Rattle.eval_elements.specs.Contracts.{FinishedAsked, FinishedIs, ArrayAsked, ArrayIs};
@@ -29,7 +29,7 @@ fn finished_elements(room: &mut [u8], table: &[u16], bytes: &[u8], at: usize, o:
         };
     }
     let p = doc_items::TRAIL + at;
-    let count = pair_at(bytes, RecAt(p + 1));
+    let count = count_members(bytes, RecAt(p));
     let first = Copied {
         next: RecAt(p + HEAD),
         out: o,

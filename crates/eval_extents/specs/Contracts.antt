@@ -1,6 +1,6 @@
 -- What the functions promise.
 use mathlib.Core.Path.{_≡_}
-use Prim.Native.Nat.{ℕ, _≤_, min, max}
+use Prim.Native.Nat.{ℕ, _+_, _-_, _≤_, min, max}
 use Rattle.eval_writer.specs.declared.Out.{Out}
 use Rattle.eval_extents.specs.declared.Extent.{Extent}
 
@@ -20,6 +20,10 @@ pub record ClipOutIs (o r : Out) : Type 0 where
 pub record ClipIs (o : Out) (d : ℕ) (r : Extent) : Type 0 where
   pub out : ClipOutIs o (r .out)
   pub deep : r .deep ≡ min far d
+
+-- how long the members are that go up to an end, behind the head at o
+abbrev pub insideC : Out → Out → ℕ
+insideC o end = end .rec .0 - (o .rec .0 + 3)
 
 -- one member more: as far as the later one, as deep as the deeper one
 abbrev pub moreC : Extent → Extent → Extent

@@ -9,14 +9,13 @@ use Rattle.rules.specs.Values.{recordSize, valueRecordSizes, memberRecordSizes,
 use Rattle.rules.specs.Values.{nestingOf, deepestValue, deepestMember}
 use Rattle.rules.specs.Sheet.{two}
 use Rattle.sheet_kept.specs.Kept.{Held, listed, keyed, Helds, no-helds, also, HeldFields, no-fields, field, named, namedAll, namedFields}
-use Rattle.sheet_kept.specs.Kept.{countHelds, countFields}
 use Rattle.sheet_kept.specs.InTurn.{extent}
 use Rattle.sheet_kept.specs.Building.{withHeld, withField, deepest-held, deepest-field}
 use Rattle.eval_writer.specs.Contracts.{Puts, KeyWrote}
 use Rattle.eval_writer.specs.Keys.{KeyIn}
 use Rattle.eval_writer.specs.Building.{WrittenAll, WrittenFields, inside, all-none, all-more, fields-none, fields-more, written-array, written-object, key-is}
 use Rattle.eval_writer.specs.declared.Out.{Out}
-use Rattle.eval_extents.specs.Contracts.{far, NotPast, ClipOutIs, ClipIs, moreC}
+use Rattle.eval_extents.specs.Contracts.{far, NotPast, ClipOutIs, ClipIs, insideC, moreC}
 use Rattle.eval_extents.specs.Came.{Came, clipped-out}
 use Rattle.eval_extents.specs.declared.Extent.{Extent}
 
@@ -83,9 +82,9 @@ module _ {key : ℕ → Text} where
         deep = omega (arith, f .deep, g .deep, deepest-held key vs w);
       }
 
-  -- the head is written behind its members, which begin three bytes behind it
+  -- the head is written after its members, which begin three bytes behind it: it says how long they are
   pub came-array : {vs : Helds} {o i : Out} {q r : Extent} {b x a : List ℕ} → ClipOutIs (inside o) i → CameAll key vs i q b x
-      → Puts (o .rec .0) (6 ∷ two (countHelds vs)) x a → ClipIs (q .out) (q .deep + 1) r → Came key (listed vs) o r b a
+      → Puts (o .rec .0) (6 ∷ two (insideC o (q .out))) x a → ClipIs (q .out) (q .deep + 1) r → Came key (listed vs) o r b a
   unfolding named recordSize textSize nestingOf
   came-array {vs} {o} {i} {q} {r} {b} {x} {a} p f h c =
       record {
@@ -94,7 +93,8 @@ module _ {key : ℕ → Text} where
             let g : i .text .0 < far = omega (arith, f .text, c .out .text) in
             let w : WrittenAll key vs (inside o) (r .out) b x =
             rw (clipped-out p e g, ← clipped-out (c .out) l m) (f .exact (omega (arith, c .out .rec)) (omega (arith, c .out .text))) in
-            written-array w h;
+            let n : insideC o (q .out) ≡ valueRecordSizes (namedAll key vs) = omega (arith, f .rec, p .rec, c .out .rec) in
+            written-array w (rw n at h);
         rec = omega (arith, c .out .rec, f .rec, p .rec);
         text = omega (arith, c .out .text, f .text, p .text);
         deep = omega (arith, c .deep, f .deep);
@@ -131,7 +131,7 @@ module _ {key : ℕ → Text} where
       }
 
   pub came-object : {ms : HeldFields} {o i : Out} {q r : Extent} {b x a : List ℕ} → ClipOutIs (inside o) i → CameFields key ms i q b x
-      → Puts (o .rec .0) (7 ∷ two (countFields ms)) x a → ClipIs (q .out) (q .deep + 1) r → Came key (keyed ms) o r b a
+      → Puts (o .rec .0) (7 ∷ two (insideC o (q .out))) x a → ClipIs (q .out) (q .deep + 1) r → Came key (keyed ms) o r b a
   unfolding named recordSize textSize nestingOf
   came-object {ms} {o} {i} {q} {r} {b} {x} {a} p f h c =
       record {
@@ -140,7 +140,8 @@ module _ {key : ℕ → Text} where
             let g : i .text .0 < far = omega (arith, f .text, c .out .text) in
             let w : WrittenFields key ms (inside o) (r .out) b x =
             rw (clipped-out p e g, ← clipped-out (c .out) l m) (f .exact (omega (arith, c .out .rec)) (omega (arith, c .out .text))) in
-            written-object w h;
+            let n : insideC o (q .out) ≡ memberRecordSizes (namedFields key ms) = omega (arith, f .rec, p .rec, c .out .rec) in
+            written-object w (rw n at h);
         rec = omega (arith, c .out .rec, f .rec, p .rec);
         text = omega (arith, c .out .text, f .text, p .text);
         deep = omega (arith, c .deep, f .deep);

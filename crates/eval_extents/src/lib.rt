@@ -2,11 +2,12 @@
 // far above what any value may have.
 // Computes: Sheet
 use eval_writer::Out;
+use sheet_forms::HEAD;
 use text_chars::RecAt;
 use text_chars::TextAt;
 ghost use mathlib.Core.Path.{_≡_};
 ghost use Prim.Native.Nat.{min};
-ghost use Rattle.eval_extents.specs.Contracts.{far, ClipIs, ClipOutIs, MoreIs};
+ghost use Rattle.eval_extents.specs.Contracts.{far, NotPast, ClipIs, ClipOutIs, insideC, MoreIs};
 
 /// Where counters end: from here records may still be added to them, and no value within its size comes so far.
 pub const FAR: usize = 4294967296;
@@ -46,6 +47,20 @@ pub fn clip(o: Out, deep: usize) -> Extent
         out: clip_out(o),
         deep: at_most_far(deep),
     }
+}
+
+/// How long the members are that go up to an end, behind the head at another place.
+pub fn length_inside(o: Out, end: Out) -> usize
+    requires { ⌜ NotPast o ⌝ }
+    ensures { λ r. ⌜ r ≡ insideC o end ⌝ }
+{
+    let head = o.rec;
+    let last = end.rec;
+    let from = head.0 + HEAD;
+    if last.0 < from {
+        return 0;
+    }
+    last.0 - from
 }
 
 /// One member more behind those before it: written as far as the later one, as deep as the deeper one.

@@ -23,13 +23,13 @@ use Rattle.eval_writer.specs.declared.Out.{Out}
 use Rattle.eval_finished.specs.Contracts.{Full, LaidIs, KeepAsked, KeepIs}
 
 module _ {room : List ℕ} {o : Out} where
-  in-holds : {key : ℕ → Text} {v : Held} → InRoom key v room o → Holds key v room (o .rec .0)
-  in-holds i = record { from = 0; stands = i .records; few = i .few }
+  in-holds : Full room o → {key : ℕ → Text} {v : Held} → InRoom key v room o → Holds key v room (o .rec .0)
+  in-holds f i = record { from = 0; stands = i .records; few = i .few; short = omega (arith, f .rec) }
 
-  pub laid-value : {t : ℕ} {b a x y : List ℕ} → LayIs Form.Public room (o .rec .0) t b a → FilledIs t room maxRecords (o .text .0) x y → LaidIs room o t b a x y
-  laid-value {t} {b} {a} {x} {y} l f =
+  pub laid-value : {t : ℕ} {b a x y : List ℕ} → Full room o → LayIs Form.Public room (o .rec .0) t b a → FilledIs t room maxRecords (o .text .0) x y → LaidIs room o t b a x y
+  laid-value {t} {b} {a} {x} {y} h l f =
       record {
-        records = λ key v i. l .laid key v (in-holds i);
+        records = λ key v i. l .laid key v (in-holds h i);
         texts = λ key v i. f .is ∙ ap (sets x t) (i .texts);
       }
 
@@ -67,7 +67,7 @@ kept-value {room} {o} {p} {tb} {t} {b} {x} {a} A l g =
     g .is ∙ ap (λ (q : List ℕ). sets (back p b q) (tb + t) tx) (l .is) ∙ ap (λ (q : List ℕ). sets q (tb + t) tx) (part-set p b xs) in
     let e : (key : ℕ → Text) (v : Held) → InRoom key v room o → a ≡ sets (sets b p (kept key t v)) (tb + t) (texts (named key v)) =
     λ key v i.
-    c ∙ ap (λ (q : List ℕ). sets (sets b p q) (tb + t) tx) (lays-value key v room (o .rec .0) (in-holds i) (omega arith) Form.Kept t)
+    c ∙ ap (λ (q : List ℕ). sets (sets b p q) (tb + t) tx) (lays-value key v room (o .rec .0) (in-holds f i) (omega arith) Form.Kept t)
     ∙ ap (sets (sets b p (kept key t v)) (tb + t)) (i .texts) in
     record {
       laid = xs;

@@ -1,6 +1,6 @@
 -- One law for each answer.
 use mathlib.Core.Path.{_≡_, refl, sym, ap, _∙_}
-use Prim.Native.Nat.{ℕ, _+_, _*_}
+use Prim.Native.Nat.{ℕ, _+_, _*_, _-_}
 use mathlib.Core.Bool.{Bool, true, false}
 use mathlib.Core.List.{List, _∷_, _++_}
 use Rattle.rules.specs.Sheet.{two}
@@ -9,7 +9,7 @@ use Rattle.eval_writer.specs.Contracts.{Puts}
 use Rattle.eval_sizes.specs.Contracts.{withinC}
 use Rattle.eval_extents.specs.declared.Extent.{Extent}
 use Rattle.eval_sizes.specs.declared.Answered.{Answered}
-use Rattle.eval_joins.specs.Model.{out, join, textOf, mixedAt, testedC, startOf}
+use Rattle.eval_joins.specs.Model.{out, join, recordsOf, textOf, mixedAt, testedC, startOf}
 use Rattle.eval_joins.specs.Answers.{AnswerIs}
 use Rattle.eval_joins.specs.Objects.{objectBy, objectC, ObjectIs}
 use Rattle.eval_joins.specs.declared.Kind.{Kind}
@@ -85,8 +85,8 @@ module _ {j : Join} {b : List ℕ} where
   pub answer-object : j .kind ≡ Kind.Object → AnswerIs j b b (Answered.Value (j .extent))
   answer-object k = record { is = rw k; put = rw k refl }
 
-  pub answer-array : {c : ℕ} {a : List ℕ} → j .kind ≡ Kind.Array c → Puts 0 (6 ∷ two c) b a → AnswerIs j b a (Answered.Value (j .extent))
-  answer-array k p = record { is = rw k; put = rw k p }
+  pub answer-array : {c n : ℕ} {a : List ℕ} → j .kind ≡ Kind.Array c → n ≡ recordsOf j - 3 → Puts 0 (6 ∷ two n) b a → AnswerIs j b a (Answered.Value (j .extent))
+  answer-array k e p = record { is = rw k; put = rw k (rw e at p) }
 
   pub answer-simple : {a : List ℕ} → j .kind ≡ Kind.Simple → Puts 0 (5 ∷ two 0 ++ two (textOf j)) b a → AnswerIs j b a (Answered.Value (j .extent))
   answer-simple k p = record { is = rw k; put = rw k p }

@@ -1,6 +1,6 @@
 -- The join's end: what its answer stores in the room, and that it is the rules' `joinAnswer`.
 use mathlib.Core.Path.{_≡_, refl, sym, ap, _∙_}
-use Prim.Native.Nat.{ℕ, suc, _+_, _≤_}
+use Prim.Native.Nat.{ℕ, suc, _+_, _-_, _≤_}
 use mathlib.Core.Bool.{true}
 use mathlib.Core.List.{List, _∷_, _++_}
 use native.Mathlib.Omega.{arith}
@@ -11,11 +11,11 @@ use Rattle.answers.specs.Ask.{value}
 use Rattle.rules.specs.Bytes.{Text}
 use Rattle.rules.specs.Sizes.{maxRecords, maxText}
 use Rattle.rules.specs.Tree.{string}
-use Rattle.rules.specs.Values.{Values, scalar, arrayOf, objectOf, nestingOf, deepestValue}
+use Rattle.rules.specs.Values.{Values, scalar, arrayOf, objectOf, recordSize, valueRecordSizes, nestingOf, deepestValue}
 use Rattle.rules.specs.Sheet.{two, textRecord, scalarRecord}
 use Rattle.rules.specs.Unresolved as rules
 use Rattle.rules.specs.Unresolved.{joinAnswer}
-use Rattle.sheet_kept.specs.Kept.{Held, simple, listed, named, namedAll, countHelds, kept}
+use Rattle.sheet_kept.specs.Kept.{Held, simple, listed, named, namedAll, kept}
 use Rattle.sheet_kept.specs.InTurn.{flat, flatScalar, wordsRec, wordsOf, extent}
 use Rattle.eval_writer.specs.Model.{whole, puts}
 use Rattle.eval_writer.specs.Contracts.{Room, textsIn, Puts, Written}
@@ -26,20 +26,21 @@ use Rattle.eval_extents.specs.Came.{came-clipped}
 use Rattle.eval_sizes.specs.Answers.{ValueIn, AnsweredIs, within-nesting, within-records, within-texts}
 use Rattle.eval_sizes.specs.declared.Answered.{Answered}
 use Rattle.eval_joins.specs.Model.{recordsOf, textOf, answerBy}
+use Rattle.eval_joins.specs.Helds.{all-records}
 use Rattle.eval_joins.specs.Standing.{TextIn, ArrayIn, JoinIn}
 use Rattle.eval_joins.specs.declared.Kind.{Kind}
 use Rattle.eval_joins.specs.declared.Join.{Join}
 
 -- a string's record and an array's head are written last
-abbrev pub AnswerPut : Kind → (n : ℕ) → (b a : List ℕ) → Type 0
-AnswerPut Kind.Blank n b a = a ≡ b
-AnswerPut Kind.Simple n b a = Puts 0 (5 ∷ two 0 ++ two n) b a
-AnswerPut (Kind.Array count) n b a = Puts 0 (6 ∷ two count) b a
-AnswerPut Kind.Object n b a = a ≡ b
+abbrev pub AnswerPut : Kind → (m n : ℕ) → (b a : List ℕ) → Type 0
+AnswerPut Kind.Blank m n b a = a ≡ b
+AnswerPut Kind.Simple m n b a = Puts 0 (5 ∷ two 0 ++ two n) b a
+AnswerPut (Kind.Array count) m n b a = Puts 0 (6 ∷ two (m - 3)) b a
+AnswerPut Kind.Object m n b a = a ≡ b
 
 pub record AnswerIs (j : Join) (b a : List ℕ) (r : Answered) : Type 0 where
   pub is : r ≡ answerBy (j .kind) (j .extent)
-  pub put : AnswerPut (j .kind) (textOf j) b a
+  pub put : AnswerPut (j .kind) (recordsOf j) (textOf j) b a
 
 -- a text that stands there already
 set-same : (l t : List ℕ) → length t ≤ length l → take (length t) l ≡ t → sets l 0 t ≡ l
@@ -76,15 +77,16 @@ module _ {key : ℕ → Text} {P : Held → Type 0} (plain : (t : Text) → P (s
         came = came-clipped w d (record { out = record { rec = omega arith; text = omega arith }; deep = omega arith });
       }
 
-  array-value : {vs : Values} (x : ArrayIn key P j b vs) → withinC (j .extent) ≡ true → Puts 0 (6 ∷ two (countHelds (x .helds))) b a
+  array-value : {vs : Values} (x : ArrayIn key P j b vs) → withinC (j .extent) ≡ true → Puts 0 (6 ∷ two (recordsOf j - 3)) b a
       → ValueIn key P a (j .extent) (arrayOf vs)
-  unfolding named nestingOf
+  unfolding named nestingOf recordSize
   array-value x e p =
       let r = within-records (j .extent) e in
       let t = within-texts (j .extent) e in
       let n = within-nesting (j .extent) e in
       let d = ap deepestValue (x .is) in
       let c = x .deep in
+      let i : recordsOf j - 3 ≡ valueRecordSizes (namedAll key (x .helds)) = omega (arith, all-records (x .written)) in
       let z : j .extent .deep ≡ suc (deepestValue (namedAll key (x .helds))) = omega arith in
       record {
         held = listed (x .helds);
@@ -92,7 +94,7 @@ module _ {key : ℕ → Text} {P : Held → Type 0} (plain : (t : Text) → P (s
         is = ap arrayOf (x .is);
         before = x .before;
         whole = x .whole;
-        came = came-clipped (written-array (x .written) p) z (record { out = record { rec = omega arith; text = omega arith }; deep = omega arith });
+        came = came-clipped (written-array (x .written) (rw i at p)) z (record { out = record { rec = omega arith; text = omega arith }; deep = omega arith });
       }
 
   pub answer-is : (J : rules.Join) {r : Answered} → JoinIn key P j b J → AnswerIs j b a r → AnsweredIs key P a (value (joinAnswer J)) r
@@ -105,7 +107,7 @@ module _ {key : ℕ → Text} {P : Held → Type 0} (plain : (t : Text) → P (s
   answer-is (rules.joinedArray vs) h w =
       let (x, e) = h .is in
       let k = x .kind in
-      let p : Puts 0 (6 ∷ two (countHelds (x .helds))) b a = rw k at (w .put) in
+      let p : Puts 0 (6 ∷ two (recordsOf j - 3)) b a = rw k at (w .put) in
       record { is = rw (w .is, k) (arrayOf vs, refl, array-value x e p, e) }
   answer-is (rules.joinedObject ms) h w =
       let (k, x, e) = h .is in

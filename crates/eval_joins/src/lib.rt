@@ -7,6 +7,7 @@ use doc_items::COLUMN_PLACE;
 use doc_items::WIDTH;
 use doc_items::number_at;
 use eval_extents::Extent;
+use eval_extents::length_inside;
 use eval_sizes::Answered;
 use eval_sizes::is_within;
 use eval_writer::Out;
@@ -142,7 +143,11 @@ pub fn join_answer(room: &mut [u8], j: Join) -> Answered
         Kind::Blank => Answered::Undefined,
         Kind::Object => Answered::Value(b),
         Kind::Array { count } => {
-            put_head(room, RecAt(0), kinds::ARRAY, count);
+            let first = Out {
+                rec: RecAt(0),
+                text: TextAt(0),
+            };
+            put_head(room, RecAt(0), kinds::ARRAY, length_inside(first, o));
             Answered::Value(b)
         }
         Kind::Simple => {

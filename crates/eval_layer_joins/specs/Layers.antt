@@ -11,15 +11,15 @@ use Rattle.answers.specs.Theory.Sound.{clash}
 use Rattle.rules.specs.Bytes.{Text}
 use Rattle.rules.specs.Pieces.{scalarText}
 use Rattle.rules.specs.Tree.{Scalar, null, boolean, number, string, simple, array, object, unresolved}
-use Rattle.rules.specs.Values.{Answer, Values, scalar, arrayOf, objectOf}
+use Rattle.rules.specs.Values.{Answer, Values, scalar, arrayOf, objectOf, valueRecordSizes}
 use Rattle.rules.specs.Sheet.{two, textRecord, scalarRecord, texts}
 use Rattle.rules.specs.Layers.{Layer, written, settled}
 use Rattle.doc_items.specs.Codes.{codeOf, asPiece}
 use Rattle.doc_items.specs.Room.{sheetAt, trailAt}
-use Rattle.sheet_kept.specs.Kept.{Held, listed, keyed, named, countHelds, kept, keptAll}
+use Rattle.sheet_kept.specs.Kept.{Held, listed, keyed, named, namedAll, kept, keptAll}
 use Rattle.sheet_kept.specs.Kept as held
 use Rattle.sheet_kept.specs.Standing.{Stands}
-use Rattle.sheet_forms.specs.Sheet.{at-0}
+use Rattle.sheet_forms.specs.Ends.{at-0}
 use Rattle.eval_scalars.specs.Contracts.{recordText}
 use Rattle.eval_scalars.specs.Texts.{record-text}
 use Rattle.eval_tables.specs.Finished.{SettledAt}
@@ -56,7 +56,7 @@ module _ {key : ℕ → Text} (items : ℕ) {T B : List ℕ} {o : ℕ} where
     where
       go : (h : Held) → named key h ≡ arrayOf vs → drop (trailAt + o) B ≡ kept key (s .text) h ++ s .stands .rest → getD B (trailAt + o) 0 ≡ 6
       go (held.simple y) e r = clash (cc (e))
-      go (listed ws) e r = at-0 B (trailAt + o) ((6 ∷ two (countHelds ws) ++ keptAll key (s .text) ws) ++ s .stands .rest) r
+      go (listed ws) e r = at-0 B (trailAt + o) ((6 ∷ two (valueRecordSizes (namedAll key ws)) ++ keptAll key (s .text) ws) ++ s .stands .rest) r
       go (keyed ms) e r = clash (cc (e))
 
   pub settled-text : (x : Scalar) → SettledAt (answersOf key items T B) (scalar x) o → recordText B sheetAt (trailAt + o) ≡ scalarText x

@@ -1,20 +1,11 @@
 -- One law for each answer of the functions that look at the tables.
 use mathlib.Core.Path.{_≡_, refl, sym, ap, _∙_}
 use mathlib.Core.List.{List}
-use mathlib.Core.Option.{Option, none}
 use Prim.Native.Nat.{ℕ, _+_, _*_, _-_, _%_, _≤_, _<_}
 use native.Mathlib.Omega.{arith}
-use mir.Syntax.{w64}
-use mir.Val.{Fits}
 use lib.ListN.{getD}
 use borrow.Author.Tests.{lt-ltb, le-ltb, le-leb, lt-leb, eq-eqb, ne-eqb}
-use Rattle.rules.specs.Bytes.{byteAt}
-use Rattle.rules.specs.LookUp.{afterValue}
-use Rattle.text_chars.specs.Cursor.{ByteIs}
-use Rattle.sheet_kinds.specs.Contracts.{EndIs}
-use Rattle.sheet_kinds.specs.Ends.{some-is, none-is, between-is}
-use Rattle.sheet_kinds.specs.declared.End.{End}
-use Rattle.text_chars.specs.declared.RecAt.{RecAt}
+use Rattle.sheet_forms.specs.Contracts.{EndIs}
 use Rattle.doc_items.specs.Room.{capacity, answersAt}
 use Rattle.doc_items.specs.Writing.{ReadIs}
 use Rattle.eval_members.specs.Model.{answerBound, answerAt, answeredAt, itemView, recordView, viewAt, itemMember, recordMember, memberAt}
@@ -68,29 +59,16 @@ module _ {T : List ℕ} {c k : ℕ} (x : ReadIs T (8 * c) k) where
 
 pub ruleset item-views = (item-object, item-other)
 
--- the end of a value is not far
-pub end-fits : {o : Option ℕ} {low high : ℕ} {r : End} {p : RecAt} → high ≤ 32768 → EndIs o low high r → r ≡ End.At p → Fits w64 (capacity + p .0)
-end-fits l y q = omega (arith, between-is y q .1)
-
-module _ {R : List ℕ} {o b : ℕ} (x : ByteIs R o b) where
+module _ {R : List ℕ} {o b : ℕ} (x : b ≡ getD R o 0) where
   pub record-other : (b ≡ 7 → ⊥) → RecordViewIs R o View.Other
   unfolding recordView
-  record-other i = record { is = rw (ne-eqb (byteAt R o) 7 (λ q. i (x .is ∙ q)), recordView) refl }
+  record-other i = record { is = rw (ne-eqb (getD R o 0) 7 (λ q. i (x ∙ q)), recordView) refl }
 
-  module _ (e : b ≡ 7) {low high : ℕ} {r : End} (y : EndIs (afterValue 32 R 32768 o) low high r) where
-    pub record-broken : r ≡ End.Nowhere → RecordViewIs R o View.Other
-    unfolding recordView
-    record-broken q =
-        let n : afterValue 32 R 32768 o ≡ none = none-is y q in
-        record { is = rw (eq-eqb (byteAt R o) 7 (sym (x .is) ∙ e), n, recordView) refl }
+  pub record-object : {e : ℕ} → b ≡ 7 → EndIs R o e → RecordViewIs R o (View.Object (capacity + (o + 3)) (capacity + e))
+  unfolding recordView
+  record-object q y = record { is = rw (eq-eqb (getD R o 0) 7 (sym x ∙ q), y .is, recordView) refl }
 
-    pub record-object : {p : RecAt} → r ≡ End.At p → RecordViewIs R o (View.Object (capacity + (o + 3)) (capacity + p .0))
-    unfolding recordView
-    record-object q =
-        let n = some-is y q in
-        record { is = rw (eq-eqb (byteAt R o) 7 (sym (x .is) ∙ e), n, recordView) refl }
-
-pub ruleset record-views = (end-fits, record-other, record-broken, record-object)
+pub ruleset record-views = (record-other, record-object)
 
 module _ {T R : List ℕ} {c : ℕ} where
   pub view-item : {r : View} → c < capacity → ItemViewIs T c r → ViewIs T R c r
@@ -131,27 +109,9 @@ module _ {T : List ℕ} {p k : ℕ} (x : ReadIs T (8 * p) k) where
 
 pub ruleset item-kids = (member-seam, member-empty, member-item)
 
-module _ {R : List ℕ} {o low high : ℕ} {r : End} (y : EndIs (afterValue 32 R 32768 (o + 5)) low high r) where
-  pub member-broken : r ≡ End.Nowhere → RecordMemberIs R o Member.End
-  unfolding recordMember
-  member-broken q =
-      let n : afterValue 32 R 32768 (o + 5) ≡ none = none-is y q in
-      record { is = rw (n, recordMember) refl }
-
-  module _ {p : RecAt} (q : r ≡ End.At p) where
-    pub member-back : p .0 ≤ o → RecordMemberIs R o Member.End
-    unfolding recordMember
-    member-back l =
-        let n = some-is y q in
-        record { is = rw (n, le-leb (p .0) o l, recordMember) refl }
-
-    pub member-record : o < p .0 → RecordMemberIs R o (Member.At (capacity + (o + 5)) (capacity + p .0))
-    unfolding recordMember
-    member-record l =
-        let n = some-is y q in
-        record { is = rw (n, lt-leb (p .0) o l, recordMember) refl }
-
-pub ruleset record-kids = (end-fits, member-broken, member-back, member-record)
+pub member-record : {R : List ℕ} {o e : ℕ} → EndIs R (o + 5) e → RecordMemberIs R o (Member.At (capacity + (o + 5)) (capacity + e))
+unfolding recordMember
+member-record y = record { is = rw (y .is, recordMember) refl }
 
 module _ {T R : List ℕ} {p e : ℕ} where
   pub member-end : e ≤ p → MemberIs T R p e Member.End

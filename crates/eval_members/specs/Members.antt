@@ -2,20 +2,19 @@
 use mathlib.Core.Path.{_≡_, refl, sym, ap, _∙_}
 use mathlib.Core.Bool.{Bool, true, false, cond}
 use mathlib.Core.List.{List, [], _∷_}
-use mathlib.Core.Option.{Option, none, some}
 use Prim.Native.Nat.{ℕ, zero, suc, _+_, _-_, _*_, _≤_, _<_}
 use native.Mathlib.Omega.{arith}
 use lib.ListN.{getD}
 use lib.Dec.{ltb, leb, eqb}
 use borrow.Author.Tests.{le-leb, leb-true, leb-false, ltb-true, ltb-false}
 use Rattle.answers.specs.Theory.Sound.{clash}
-use Rattle.rules.specs.Sizes.{maxNesting, maxRoom}
-use Rattle.rules.specs.LookUp.{afterValue}
+use Rattle.rules.specs.Sizes.{maxRoom}
 use Rattle.doc_items.specs.Room.{capacity, numberBound, answersAt}
 use Rattle.eval_keys.specs.Columns.{keysAt}
+use Rattle.sheet_forms.specs.Ends.{end-behind}
 use Rattle.eval_answers.specs.Model.{answered}
 use Rattle.eval_answers.specs.declared.Answered.{Answered}
-use Rattle.eval_members.specs.Model.{answerBound, answerAt, answeredAt, itemMember, endMember, recordMember, memberAt, keyNumber, recordKey, keyAt, membersBy, membersN, membersOf}
+use Rattle.eval_members.specs.Model.{answerBound, answerAt, answeredAt, itemMember, recordMember, memberAt, keyNumber, recordKey, keyAt, membersBy, membersN, membersOf}
 use Rattle.eval_members.specs.Contracts.{AnsweredIs, MemberIs}
 use Rattle.eval_members.specs.declared.Member.{Member}
 
@@ -51,13 +50,9 @@ item-onward T p l =
     go zero f = clash (cc (f))
     go (suc z) f = omega arith
 
-end-onward : (o p : ℕ) → p ≡ capacity + o → o ≤ maxRoom → (m : Option ℕ) → Onward p (endMember o m)
-end-onward o p e l none = tt
-end-onward o p e l (some q) = by-cond (Onward p) (leb q o) _ _ (λ f. tt) (λ f. (omega (arith, leb-false q o f), omega arith))
-
 record-onward : (R : List ℕ) (o p : ℕ) → p ≡ capacity + o → o ≤ maxRoom → Onward p (recordMember R o)
 unfolding recordMember
-record-onward R o p e l = end-onward o p e l (afterValue maxNesting R maxRoom (o + 5))
+record-onward R o p e l = (omega (arith, end-behind R (o + 5)), omega arith)
 
 member-onward : (T R : List ℕ) (p e : ℕ) → Onward p (memberAt T R p e)
 unfolding memberAt

@@ -4,14 +4,12 @@
 use Prim.Native.Nat.{ℕ, zero, suc, _+_, _*_, _-_, _%_}
 use mathlib.Core.Bool.{cond}
 use mathlib.Core.List.{List, [], _∷_}
-use mathlib.Core.Option.{Option, none, some}
 use lib.Dec.{ltb, leb, eqb}
 use lib.ListN.{getD}
-use Rattle.rules.specs.Sizes.{maxNesting, maxRoom}
-use Rattle.rules.specs.Bytes.{byteAt}
+use Rattle.rules.specs.Sizes.{maxRoom}
 use Rattle.rules.specs.Sheet.{pairAt}
-use Rattle.rules.specs.LookUp.{afterValue}
 use Rattle.doc_items.specs.Room.{capacity, answersAt}
+use Rattle.sheet_forms.specs.Model.{endC}
 use Rattle.eval_keys.specs.Columns.{keysAt}
 use Rattle.eval_answers.specs.Model.{answered}
 use Rattle.eval_answers.specs.declared.Answered.{Answered}
@@ -39,13 +37,10 @@ answeredAt T c =
 unfoldable pub itemView : List ℕ → ℕ → View
 itemView T c = cond (eqb (getD T (8 * c) 0 % 16) 7) (View.Object (c + 1) (c + getD T (8 * c + 1) 0)) View.Other
 
-abbrev pub endView : ℕ → Option ℕ → View
-endView o none = View.Other
-endView o (some e) = View.Object (capacity + (o + 3)) (capacity + e)
-
+-- a finished one, whose record says where it ends
 unfoldable pub recordView : List ℕ → ℕ → View
-unfolding afterValue
-recordView R o = cond (eqb (byteAt R o) 7) (endView o (afterValue maxNesting R maxRoom o)) View.Other
+unfolding endC
+recordView R o = cond (eqb (getD R o 0) 7) (View.Object (capacity + (o + 3)) (capacity + endC R o)) View.Other
 
 unfoldable pub viewAt : List ℕ → List ℕ → ℕ → View
 unfolding itemView recordView
@@ -57,13 +52,10 @@ itemMember T p =
     cond (leb 16 (getD T (8 * p) 0)) (Member.Seam (p + 1))
     (cond (eqb (getD T (8 * p + 1) 0) 0) Member.End (Member.At p (p + getD T (8 * p + 1) 0)))
 
-abbrev pub endMember : ℕ → Option ℕ → Member
-endMember o none = Member.End
-endMember o (some e) = cond (leb e o) Member.End (Member.At (capacity + (o + 5)) (capacity + e))
-
+-- behind its key
 unfoldable pub recordMember : List ℕ → ℕ → Member
-unfolding afterValue
-recordMember R o = endMember o (afterValue maxNesting R maxRoom (o + 5))
+unfolding endC
+recordMember R o = Member.At (capacity + (o + 5)) (capacity + endC R (o + 5))
 
 -- the member at p, where they go up to e
 unfoldable pub memberAt : List ℕ → List ℕ → ℕ → ℕ → Member

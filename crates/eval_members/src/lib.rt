@@ -1,16 +1,20 @@
 // What a job's tables show of a layer, which is a number: an item of the document by its index, or a finished value by the offset of
-// its record and the capacity more. Finished values stand as kept: a key's record has the key's number. This crate, and `eval_answers`
+// its record and the capacity more. Finished values stand as kept: a key's record has the key's number, an
+// array's or object's how long what is inside is. This crate, and `eval_answers`
 // below it, alone pack a layer's number and take it apart; to all others it is only a number. Whatever the tables hold, each look ends
 // with an answer, and each number fits the stack's entries.
 // Computes: Layers (by the model in specs/Model)
+use codes::kinds;
 use codes::limits;
 use doc_items::COLUMN_NUMBER;
 use doc_items::COLUMN_SIZE;
 use doc_items::WIDTH;
 use eval_answers::Answered;
-use sheet_kinds::End;
+use sheet_forms::HEAD;
+use sheet_forms::WORD;
+use sheet_forms::kind_at;
+use sheet_forms::record_end;
 use text_chars::RecAt;
-use text_chars::TextLen;
 ghost use Prim.Native.Nat.{_≤_, _<_};
 ghost use Rattle.rules.specs.Sizes.{maxRoom};
 ghost use Rattle.doc_items.specs.Room.{capacity, numberBound};
@@ -35,12 +39,7 @@ pub enum Member {
     At { layer: usize, next: usize },
 }
 
-// How many bytes the record of an object has before its members, and a key's record before its value; and how far before the value the
-// key's number stands.
-const HEAD: usize = 3;
-
-const KEY_RECORD: usize = 5;
-
+// How far before a member's value its key's number stands.
 const KEY_NUMBER: usize = 4;
 
 // The numbers that an answer may have in the table: its record begins inside the answers' room.
@@ -92,18 +91,12 @@ fn record_view(records: &[u8], o: usize) -> View
     requires { ⌜ Few (now records) × (o ≤ maxRoom) ⌝ }
     ensures { λ r. ⌜ RecordViewIs (now (records .entry)) o r ⌝ }
 {
-    if text_chars::record_byte(records, RecAt(o)) == sheet_kinds::OBJECT {
-        match sheet_records::value_end(records, TextLen(limits::ROOM), RecAt(o), limits::NESTING) {
-            End::At(end) => {
-                return View::Object {
-                    first: doc_items::CAPACITY + (o + HEAD),
-                    end: doc_items::CAPACITY + end.0,
-                };
-            }
-            End::Nowhere => {
-                return View::Other;
-            }
-        }
+    if kind_at(records, RecAt(o)) == kinds::OBJECT {
+        let end = record_end(records, RecAt(o));
+        return View::Object {
+            first: doc_items::CAPACITY + (o + HEAD),
+            end: doc_items::CAPACITY + end.0,
+        };
     }
     View::Other
 }
@@ -144,23 +137,10 @@ fn record_member(records: &[u8], o: usize) -> Member
     requires { ⌜ Few (now records) × (o ≤ maxRoom) ⌝ }
     ensures { λ r. ⌜ RecordMemberIs (now (records .entry)) o r ⌝ }
 {
-    match sheet_records::value_end(
-        records,
-        TextLen(limits::ROOM),
-        RecAt(o + KEY_RECORD),
-        limits::NESTING,
-    ) {
-        End::Nowhere => Member::End,
-        End::At(end) => {
-            let q = end.0;
-            if q <= o {
-                return Member::End;
-            }
-            Member::At {
-                layer: doc_items::CAPACITY + (o + KEY_RECORD),
-                next: doc_items::CAPACITY + q,
-            }
-        }
+    let end = record_end(records, RecAt(o + WORD));
+    Member::At {
+        layer: doc_items::CAPACITY + (o + WORD),
+        next: doc_items::CAPACITY + end.0,
     }
 }
 
@@ -187,7 +167,7 @@ fn record_key(records: &[u8], o: usize) -> usize
     requires { ⌜ Few (now records) ⌝ }
     ensures { λ r. ⌜ RecordKeyIs (now (records .entry)) o r ⌝ }
 {
-    if o < KEY_RECORD {
+    if o < WORD {
         return 0;
     }
     if limits::ROOM < o {

@@ -8,11 +8,13 @@ use lib.ListN.{length}
 use Rattle.rules.specs.Sheet.{two}
 use Rattle.sheet_kept.specs.InTurn.{extent}
 use Rattle.eval_writer.specs.Model.{wordAt}
-use Rattle.eval_writer.specs.Contracts.{Wrote, KeyWrote}
+use Rattle.sheet_forms.specs.Model.{membersC}
+use Rattle.sheet_forms.specs.Contracts.{PairIs}
+use Rattle.eval_writer.specs.Contracts.{Puts, Wrote, KeyWrote}
 use Rattle.eval_writer.specs.Composition.{wrote-none}
 use Rattle.eval_writer.specs.declared.Out.{Out}
 use Rattle.eval_records.specs.Model.{keyC, copyK, plainC, wordC}
-use Rattle.eval_records.specs.Contracts.{PairIs, Span, CopiedIs}
+use Rattle.eval_records.specs.Contracts.{Span, CopiedIs, HeadIs}
 use Rattle.eval_records.specs.declared.Copied.{Copied}
 
 module _ {s : List ℕ} where
@@ -58,5 +60,8 @@ module _ {s : List ℕ} where
         span = record { rec = omega (arith, q .rec, w .rec); text = omega (arith, q .text, w .text, j .small); bytes = q .bytes };
         far = omega arith;
       }
+
+  pub head-copied : {p k rec n r : ℕ} {b a : List ℕ} → PairIs s (p + 1) n → Puts rec (k ∷ two n) b a → r ≡ membersC s p → HeadIs s k p rec r b a
+  head-copied {p} {k} {rec} {n} {r} {b} {a} i w e = record { count = e; head = rw (i .is) at w }
 
 pub ruleset key-laws = (key-copied, no-key)

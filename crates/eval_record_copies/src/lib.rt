@@ -2,13 +2,14 @@
 // counted, and never runs away.
 // Computes: Sheet
 use eval_records::Copied;
-use eval_records::pair_at;
 use eval_words::put_key;
 use eval_words::put_string;
 use eval_writer::Out;
 use eval_writer::put_head;
 use eval_writer::put_plain;
 use sheet_forms::WORD;
+use sheet_forms::count_members;
+use sheet_forms::pair_at;
 use text_chars::RecAt;
 use text_chars::TextAt;
 use text_chars::TextLen;
@@ -88,7 +89,7 @@ pub fn copy_head(room: &mut [u8], bytes: &[u8], kind: u8, at: RecAt, o: Out) -> 
 {
     let p = at.0;
     let rec = o.rec;
-    let count = pair_at(bytes, RecAt(p + 1));
-    put_head(room, rec, kind, count);
-    count
+    let inside = pair_at(bytes, RecAt(p + 1));
+    put_head(room, rec, kind, inside);
+    count_members(bytes, at)
 }

@@ -4,9 +4,10 @@ use Prim.Native.Nat.{ℕ, _+_, _*_, _≤_}
 use mathlib.Core.List.{List, _∷_}
 use lib.ListN.{length}
 use Rattle.rules.specs.Sheet.{two}
-use Rattle.eval_writer.specs.Contracts.{longestText, Puts, Wrote}
+use Rattle.sheet_forms.specs.Model.{pairC, membersC}
+use Rattle.eval_writer.specs.Contracts.{Puts, Wrote}
 use Rattle.eval_writer.specs.declared.Out.{Out}
-use Rattle.eval_records.specs.Model.{Act, pairC}
+use Rattle.eval_records.specs.Model.{Act}
 use Rattle.eval_records.specs.declared.Copied.{Copied}
 
 -- A job's bytes are fewer, and counters begin lower: these leave room, so that no sum wraps.
@@ -15,10 +16,6 @@ mostBytes = 1048576
 
 abbrev pub farthest : ℕ
 farthest = 4294967296
-
-pub record PairIs (s : List ℕ) (p r : ℕ) : Type 0 where
-  pub is : r ≡ pairC s p
-  pub small : r ≤ longestText
 
 -- counters grow no quicker than places in the bytes
 pub record Span (s : List ℕ) (p : ℕ) (o : Out) : Type 0 where
@@ -34,6 +31,7 @@ pub record CopiedIs (s : List ℕ) (x : ℕ) (m : Act) (o : Out) (r : Copied) (b
   pub span : Span s (r .next .0) (r .out)
   pub far : r .next .0 ≤ length s + x
 
+-- the record of an array or object as it is, and how many members it has
 pub record HeadIs (s : List ℕ) (k p rec r : ℕ) (b a : List ℕ) : Type 0 where
-  pub count : PairIs s (p + 1) r
-  pub head : Puts rec (k ∷ two r) b a
+  pub count : r ≡ membersC s p
+  pub head : Puts rec (k ∷ two (pairC s (p + 1))) b a

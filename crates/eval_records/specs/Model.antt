@@ -1,10 +1,10 @@
 -- What the code computes, on the bytes that it has. Nothing is assumed of them.
-use Prim.Native.Nat.{ℕ, _+_, _*_, max}
+use Prim.Native.Nat.{ℕ, _+_, max}
 use mathlib.Core.Bool.{Bool, true, false}
 use mathlib.Core.List.{List, [], _∷_, _++_}
-use lib.ListN.{getD}
 use Rattle.rules.specs.Sheet.{two}
 use Rattle.sheet_kept.specs.InTurn.{Word}
+use Rattle.sheet_forms.specs.Model.{pairC}
 use Rattle.eval_writer.specs.Model.{wordAt, keyAt, keyLen}
 
 -- what is written, where the next record stands, and how deep it is nested
@@ -23,10 +23,6 @@ then a b = record { xs = a .xs ++ b .xs; ws = a .ws ++ b .ws; next = b .next; de
 -- what stands in an array or object
 abbrev pub under : Act → Act
 under a = record { xs = a .xs; ws = a .ws; next = a .next; deep = a .deep + 1 }
-
--- two bytes as a number, 0 past the end
-abbrev pub pairC : List ℕ → ℕ → ℕ
-pairC s p = getD s p 0 * 256 + getD s (p + 1) 0
 
 -- a key by its number
 unfoldable pub keyC : List ℕ → List ℕ → ℕ → ℕ → Act

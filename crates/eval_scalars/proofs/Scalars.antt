@@ -8,7 +8,7 @@ use borrow.Author.Tests.{le-leb, lt-leb, ne-eqb}
 use Rattle.rules.specs.Bytes.{Text}
 use Rattle.doc_items.specs.Writing.{ReadIs}
 use Rattle.eval_writer.specs.Model.{wordAt}
-use Rattle.eval_records.specs.Contracts.{PairIs}
+use Rattle.sheet_forms.specs.Contracts.{PairIs}
 use Rattle.eval_joins.specs.Contracts.{TextJoinedIs}
 use Rattle.eval_joins.specs.declared.Join.{Join}
 use Rattle.eval_joins.specs.declared.Joined.{Joined}

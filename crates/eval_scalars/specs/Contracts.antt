@@ -7,7 +7,7 @@ use lib.ListN.{getD}
 use Rattle.rules.specs.Bytes.{Text}
 use Rattle.rules.specs.Pieces.{wordNull, wordFalse, wordTrue}
 use Rattle.eval_writer.specs.Model.{wordAt}
-use Rattle.eval_records.specs.Model.{pairC}
+use Rattle.sheet_forms.specs.Model.{pairC}
 use Rattle.eval_joins.specs.Contracts.{TextJoinedIs}
 use Rattle.eval_joins.specs.declared.Join.{Join}
 use Rattle.eval_joins.specs.declared.Joined.{Joined}

@@ -17,10 +17,10 @@ use Rattle.theory.specs.Layout.{two-back}
 use Rattle.doc_items.specs.Holds.{NodeAt}
 use Rattle.doc_items.specs.Parts.{numbers, letters}
 use Rattle.sheet_kept.specs.Standing.{Stands}
-use Rattle.sheet_forms.specs.Sheet.{at-0, at-n}
+use Rattle.sheet_forms.specs.Model.{pairC}
+use Rattle.sheet_forms.specs.Ends.{at-0, at-n}
 use Rattle.eval_writer.specs.Model.{wordAt}
 use Rattle.eval_writer.specs.Texts.{word-is}
-use Rattle.eval_records.specs.Model.{pairC}
 use Rattle.eval_scalars.specs.Contracts.{recordText}
 
 pub item-text : (T X : List ℕ) (lo hi : ℕ) (N : ℕ → ℕ → Type 0) (role c : ℕ) (x : Scalar) → hi ≤ length X

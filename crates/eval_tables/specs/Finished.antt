@@ -4,30 +4,28 @@ use mathlib.Core.Path.{_≡_, refl, sym, ap, subst, _∙_}
 use Prim.Native.Nat.{ℕ, _+_, _-_, _≤_}
 use mathlib.Core.List.{List, [], _∷_, _++_}
 use mathlib.Core.Bool.{true, false}
-use mathlib.Core.Option.{some}
 use native.Mathlib.Omega.{arith}
-use lib.ListN.{length, take, drop, length-append, length-drop}
+use lib.ListN.{length, getD, take, drop, length-append, length-drop}
 use lib.Seq.{take-add, take-append-add, drop-drop, length-take-le}
 use Rattle.answers.specs.Theory.Sound.{clash}
 use Rattle.rules.specs.Sizes.{maxNesting, maxRoom, maxText}
-use Rattle.rules.specs.Bytes.{Text, byteAt, At}
+use Rattle.rules.specs.Bytes.{Text, At}
 use Rattle.rules.specs.Tree.{Scalar, null, boolean, number, string}
 use Rattle.rules.specs.Values.{Value, scalar, arrayOf, objectOf, Values, Members}
-use Rattle.rules.specs.Values.{recordSize, memberRecordSizes, textSize, memberTextSizes, nestingOf, deepestMember}
+use Rattle.rules.specs.Values.{recordSize, valueRecordSizes, memberRecordSizes, textSize, memberTextSizes, nestingOf, deepestMember}
 use Rattle.rules.specs.Sheet.{two, pairAt, textRecord, scalarRecord, texts, memberTexts}
-use Rattle.rules.specs.LookUp.{afterValue}
 use Rattle.rules.specs.NamedValues.{Distinct, DistinctMembers}
 use Rattle.theory.specs.Layout.{length-texts}
-use Rattle.theory.specs.LaidOut.{at-byte}
 use Rattle.doc_items.specs.Room.{capacity}
 use Rattle.eval_keys.specs.Numbers.{Numbered}
 use Rattle.eval_writer.specs.Keys.{KeyIn, KeysIn}
-use Rattle.sheet_kept.specs.Kept.{Held, simple, listed, keyed, HeldFields, field, named, namedFields}
-use Rattle.sheet_kept.specs.Kept.{countFields, countHelds, keyRecord, kept, keptAll, keptFields}
+use Rattle.sheet_kept.specs.Kept.{Held, simple, listed, keyed, HeldFields, field, named, namedAll, namedFields}
+use Rattle.sheet_kept.specs.Kept.{keyRecord, kept, keptAll, keptFields}
 use Rattle.sheet_kept.specs.Sizes.{kept-records, kept-some}
 use Rattle.sheet_kept.specs.Standing.{Stands, stands-left, stands-right, stands-in}
+use Rattle.sheet_forms.specs.Model.{endC}
 use Rattle.eval_tables.specs.Keys.{KeyNumber, EachKey, EachField, keys-in}
-use Rattle.eval_tables.specs.KeptEnds.{five-bytes, key-stands, number-at, value-ends}
+use Rattle.eval_tables.specs.KeptEnds.{five-bytes, key-stands, number-at, first-at, value-ends}
 
 -- ---- a job's memory
 
@@ -129,13 +127,10 @@ module _ (M : Memory) where
           (kept-some (M .key) (s .text) (s .held)) (omega (arith, settled-length s, s .inside))
 
       -- its end is found
-      pub settled-ends : afterValue maxNesting (M .records) maxRoom o ≡ some (o + recordSize v)
+      pub settled-ends : endC (M .records) o ≡ o + recordSize v
       settled-ends =
-          let t : textSize (named (M .key) (s .held)) ≡ textSize v = ap textSize (s .is) in
-          let d : nestingOf (named (M .key) (s .held)) ≡ nestingOf v = ap nestingOf (s .is) in
-          value-ends (M .records) (M .key) IsKey (λ k K. omega (arith, K .high, S .few)) (s .held) maxNesting (s .text) o
-          (omega (arith, s .nesting)) (s .keys) settled-records (omega (arith, s .upto)) (omega (arith, s .size)) (omega (arith, settled-length s, s .inside))
-          ∙ ap (λ (n : ℕ). some (o + n)) (settled-length s)
+          value-ends (M .records) (M .key) (s .held) (s .text) o settled-records (omega (arith, settled-length s, s .inside))
+          ∙ ap (λ (n : ℕ). o + n) (settled-length s)
 
     -- ---- the first member and the others
 
@@ -175,7 +170,7 @@ module _ (M : Memory) where
         let rest = stands-right B tb (g ++ x) ys (t ++ tx) ty (ra + o) u (h .stands) in
         record {
           number = h .keys .0;
-          read = number-at (M .records) 8 k t o (omega (arith, h .keys .0 .high, S .few)) (omega (arith, h .size))
+          read = number-at (M .records) 8 k t o (omega (arith, h .keys .0 .high, S .few))
               (key-stands (M .records) o k t (in-records g t o u its-key (omega arith) (omega (arith, h .inside))));
           value = record {
             held = v;
@@ -207,35 +202,35 @@ module _ (M : Memory) where
 
     -- ---- the first byte, and the members of an object
 
-    scalar-byte : (x : Scalar) (o u : ℕ) → At (M .records) o (scalarRecord u x) → byteAt (M .records) o ≤ 5
+    scalar-byte : (x : Scalar) (o u : ℕ) → At (M .records) o (scalarRecord u x) → getD (M .records) o 0 ≤ 5
     unfolding scalarRecord textRecord
-    scalar-byte null o u s = omega (arith, at-byte 1 [] s)
-    scalar-byte (boolean false) o u s = omega (arith, at-byte 2 [] s)
-    scalar-byte (boolean true) o u s = omega (arith, at-byte 3 [] s)
-    scalar-byte (number t) o u s = omega (arith, at-byte 4 (two u ++ two (length t)) s)
-    scalar-byte (string t) o u s = omega (arith, at-byte 5 (two u ++ two (length t)) s)
+    scalar-byte null o u s = omega (arith, first-at (M .records) o 1 [] s)
+    scalar-byte (boolean false) o u s = omega (arith, first-at (M .records) o 2 [] s)
+    scalar-byte (boolean true) o u s = omega (arith, first-at (M .records) o 3 [] s)
+    scalar-byte (number t) o u s = omega (arith, first-at (M .records) o 4 (two u ++ two (length t)) s)
+    scalar-byte (string t) o u s = omega (arith, first-at (M .records) o 5 (two u ++ two (length t)) s)
 
-    pub scalar-first : (x : Scalar) (o : ℕ) → SettledAt (scalar x) o → byteAt (M .records) o ≤ 5
+    pub scalar-first : (x : Scalar) (o : ℕ) → SettledAt (scalar x) o → getD (M .records) o 0 ≤ 5
     unfolding kept named
     scalar-first x o s = go (s .held) (s .is) (settled-records s)
       where
-        go : (h : Held) → named (M .key) h ≡ scalar x → At (M .records) o (kept (M .key) (s .text) h) → byteAt (M .records) o ≤ 5
+        go : (h : Held) → named (M .key) h ≡ scalar x → At (M .records) o (kept (M .key) (s .text) h) → getD (M .records) o 0 ≤ 5
         go (simple y) e a = scalar-byte y o (s .text) a
         go (listed vs) e a = clash (cc (e))
         go (keyed ms) e a = clash (cc (e))
 
-    pub array-first : (vs : Values) (o : ℕ) → SettledAt (arrayOf vs) o → byteAt (M .records) o ≡ 6
+    pub array-first : (vs : Values) (o : ℕ) → SettledAt (arrayOf vs) o → getD (M .records) o 0 ≡ 6
     unfolding kept named
     array-first vs o s = go (s .held) (s .is) (settled-records s)
       where
-        go : (h : Held) → named (M .key) h ≡ arrayOf vs → At (M .records) o (kept (M .key) (s .text) h) → byteAt (M .records) o ≡ 6
+        go : (h : Held) → named (M .key) h ≡ arrayOf vs → At (M .records) o (kept (M .key) (s .text) h) → getD (M .records) o 0 ≡ 6
         go (simple y) e a = clash (cc (e))
-        go (listed ws) e a = at-byte 6 (two (countHelds ws) ++ keptAll (M .key) (s .text) ws) a
+        go (listed ws) e a = first-at (M .records) o 6 (two (valueRecordSizes (namedAll (M .key) ws)) ++ keptAll (M .key) (s .text) ws) a
         go (keyed ms) e a = clash (cc (e))
 
     -- an object's members stand behind its record
     pub record ObjectAt (ms : Members) (o : ℕ) : Type 0 where
-      pub first : byteAt (M .records) o ≡ 7
+      pub first : getD (M .records) o 0 ≡ 7
       pub fields : HeldFields
       pub is : namedFields (M .key) fields ≡ ms
       pub members : MembersAt fields (o + 3)
@@ -245,7 +240,7 @@ module _ (M : Memory) where
         → u + memberTextSizes (namedFields (M .key) fs) ≤ maxRoom → u + memberTextSizes (namedFields (M .key) fs) ≤ M .filled-text → MembersAt fs (o + 3)
     unfolding kept named texts recordSize textSize nestingOf two
     object-at fs o s k u h l l′ =
-        let c = countFields fs in
+        let c = memberRecordSizes (namedFields (M .key) fs) in
         let ys = keptFields (M .key) u fs in
         let tx = memberTexts (namedFields (M .key) fs) in
         let rest = stands-right (M .bytes) (M .texts-at) (7 ∷ two c) ys [] tx (M .records-at + o) u h in
@@ -277,7 +272,7 @@ module _ (M : Memory) where
         go (keyed fs) e k h a =
             let f : namedFields (M .key) fs ≡ ms = cc (e) in
             record {
-              first = at-byte 7 (two (countFields fs) ++ keptFields (M .key) (s .text) fs) a;
+              first = first-at (M .records) o 7 (two (memberRecordSizes (namedFields (M .key) fs)) ++ keptFields (M .key) (s .text) fs) a;
               fields = fs;
               is = f;
               members = object-at fs o (subst (λ (q : Members). SettledAt (objectOf q) o) (sym f) s) k (s .text) h

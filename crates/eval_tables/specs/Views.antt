@@ -3,18 +3,16 @@ use mathlib.Core.Path.{_≡_, refl, ap, subst, _∙_}
 use Prim.Native.Nat.{ℕ, zero, suc, _+_, _*_, _-_, _%_, _≤_, _<_}
 use mathlib.Core.List.{List, [], _∷_}
 use mathlib.Core.Bool.{Bool, true, false}
-use mathlib.Core.Option.{some}
 use native.Mathlib.Omega.{arith}
 use lib.Dec.{ltb, leb}
 use lib.ListN.{getD}
 use borrow.Author.Tests.{ltb-true, ltb-false, leb-true, leb-false, lt-ltb, le-ltb, le-leb, lt-leb, eq-eqb, ne-eqb}
-use Rattle.rules.specs.Sizes.{maxNesting, maxRoom}
-use Rattle.rules.specs.Bytes.{Text, byteAt}
+use Rattle.rules.specs.Sizes.{maxRoom}
+use Rattle.rules.specs.Bytes.{Text}
 use Rattle.rules.specs.Tree.{Node, simple, array, object, unresolved, Fields, no-fields, field}
 use Rattle.rules.specs.Values.{Value, scalar, arrayOf, objectOf, Members, no-members, member, recordSize, memberRecordSizes}
 use Rattle.rules.specs.Layers.{Layer, written, settled}
 use Rattle.rules.specs.Sheet.{pairAt}
-use Rattle.rules.specs.LookUp.{afterValue}
 use Rattle.rules.specs.NamedValues.{DistinctMembers}
 use Rattle.sheet_kept.specs.Kept.{HeldFields, no-fields as none-held, field as held-field, named, namedFields}
 use Rattle.doc_items.specs.Codes.{codeOf, asMember}
@@ -23,6 +21,7 @@ use Rattle.doc_items.specs.Parts.{numbers, letters}
 use Rattle.doc_items.specs.Room.{capacity}
 use Rattle.eval_keys.specs.Columns.{keysAt, isField}
 use Rattle.eval_keys.specs.Documents.{text-is}
+use Rattle.sheet_forms.specs.Model.{endC}
 use Rattle.eval_members.specs.Model.{itemView, recordView, viewAt, itemMember, recordMember, memberAt, keyNumber, recordKey, keyAt, membersN, membersOf}
 use Rattle.eval_members.specs.declared.View.{View}
 use Rattle.eval_members.specs.declared.Member.{Member}
@@ -203,7 +202,6 @@ module _ (M : Memory) where
             le-leb o maxRoom (omega (arith, s .inside)),
             recordMember,
             settled-ends M S s,
-            lt-leb (o + 5 + recordSize v) o (omega arith),
           ) refl
 
     -- a member's key
@@ -244,18 +242,18 @@ module _ (M : Memory) where
     item-other k = rw (viewAt, lt-ltb c capacity l, itemView, ne-eqb (getD T (8 * c) 0 % 16) 7 k) refl
 
   module _ (c o : ℕ) (h : c ≡ capacity + o) (l : o ≤ maxRoom) where
-    record-other : (byteAt R o ≡ 7 → ⊥) → viewAt T R c ≡ View.Other
+    record-other : (getD R o 0 ≡ 7 → ⊥) → viewAt T R c ≡ View.Other
     unfolding viewAt recordView
     record-other k =
         let z : c - capacity ≡ o = omega arith in
-        rw (viewAt, le-ltb c capacity (omega arith), z, le-leb o maxRoom l, recordView, ne-eqb (byteAt R o) 7 k) (refl {a = View.Other})
+        rw (viewAt, le-ltb c capacity (omega arith), z, le-leb o maxRoom l, recordView, ne-eqb (getD R o 0) 7 k) (refl {a = View.Other})
 
-    record-object : (e : ℕ) → byteAt R o ≡ 7 → afterValue maxNesting R maxRoom o ≡ some e
+    record-object : (e : ℕ) → getD R o 0 ≡ 7 → endC R o ≡ e
         → viewAt T R c ≡ View.Object (capacity + (o + 3)) (capacity + e)
     unfolding viewAt recordView
     record-object e k f =
         let z : c - capacity ≡ o = omega arith in
-        rw (viewAt, le-ltb c capacity (omega arith), z, le-leb o maxRoom l, recordView, eq-eqb (byteAt R o) 7 k, f) refl
+        rw (viewAt, le-ltb c capacity (omega arith), z, le-leb o maxRoom l, recordView, eq-eqb (getD R o 0) 7 k, f) refl
 
   -- what an item or a record is, by the layer that it shows
   abbrev pub Viewed : View → Layer → Type 0

@@ -8,7 +8,7 @@ use mir.Val.{Fits}
 use Rattle.rules.specs.Sheet.{two}
 use Rattle.eval_writer.specs.Contracts.{Puts}
 use Rattle.eval_writer.specs.declared.Out.{Out}
-use Rattle.eval_extents.specs.Contracts.{ClipIs, MoreIs}
+use Rattle.eval_extents.specs.Contracts.{ClipIs, insideC, MoreIs}
 use Rattle.eval_extents.specs.declared.Extent.{Extent}
 use Rattle.eval_worked.specs.Contracts.{MadeWithin, OneMoreIs, HeadedIs}
 use Rattle.eval_worked.specs.declared.Worked.{Worked}
@@ -30,9 +30,9 @@ module _ {o : Out} {k : ℕ} {made : Made} {b : List ℕ} where
   pub headed-needs : {n : ℕ} → made ≡ Made.Needs n → HeadedIs o k made (Worked.Needs n) b b
   headed-needs h = record { is = rw h refl }
 
-  pub headed-done : {a : List ℕ} {count : ℕ} {e x : Extent} → made ≡ Made.Done count e → Puts (o .rec .0) (k ∷ two count) b a
+  pub headed-done : {a : List ℕ} {count n : ℕ} {e x : Extent} → made ≡ Made.Done count e → n ≡ insideC o (e .out) → Puts (o .rec .0) (k ∷ two n) b a
       → ClipIs (e .out) (e .deep + 1) x → HeadedIs o k made (Worked.Done x) b a
-  headed-done {a} {count} {e} {x} h p c = record { is = rw h (x, refl, c, p) }
+  headed-done {a} {count} {n} {e} {x} h i p c = record { is = rw h (x, refl, c, rw i at p) }
 
 pub deep-fits : {made : Made} {count : ℕ} {e : Extent} → made ≡ Made.Done count e → MadeWithin made → Fits w64 (e .deep + 1)
 deep-fits {made} {count} {e} h w = let q : MadeWithin (Made.Done count e) = rw h at w in omega (arith, q .deep)

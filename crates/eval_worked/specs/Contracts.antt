@@ -5,7 +5,7 @@ use mathlib.Core.List.{List, _∷_}
 use Rattle.rules.specs.Sheet.{two}
 use Rattle.eval_writer.specs.Contracts.{Puts}
 use Rattle.eval_writer.specs.declared.Out.{Out}
-use Rattle.eval_extents.specs.Contracts.{ClipIs, moreC, Bounded}
+use Rattle.eval_extents.specs.Contracts.{ClipIs, insideC, moreC, Bounded}
 use Rattle.eval_extents.specs.declared.Extent.{Extent}
 use Rattle.eval_worked.specs.declared.Worked.{Worked}
 use Rattle.eval_worked.specs.declared.Made.{Made}
@@ -33,7 +33,7 @@ pub record OneMoreIs (count : ℕ) (e : Extent) (v : Worked) (r : Made) : Type 0
 abbrev pub HeadedBy : Out → ℕ → Made → Worked → List ℕ → List ℕ → Type 0
 HeadedBy o k (Made.Needs n) r b a = r ≡ Worked.Needs n
 HeadedBy o k (Made.Done count e) r b a =
-    (x : Extent) × (r ≡ Worked.Done x) × ClipIs (e .out) (e .deep + 1) x × Puts (o .rec .0) (k ∷ two count) b a
+    (x : Extent) × (r ≡ Worked.Done x) × ClipIs (e .out) (e .deep + 1) x × Puts (o .rec .0) (k ∷ two (insideC o (e .out))) b a
 
 pub record HeadedIs (o : Out) (k : ℕ) (made : Made) (r : Worked) (b a : List ℕ) : Type 0 where
   pub is : HeadedBy o k made r b a

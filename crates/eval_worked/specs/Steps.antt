@@ -223,7 +223,7 @@ module _ {key : ℕ → Text} {P : ℕ → Type 0} {o i : Out} {made : Made} {r 
                   held = listed (f .helds);
                   is = rw (f .is);
                   keys = f .keys;
-                  came = came-array c (f .came) (rw (f .counted) at (h .3)) (h .2);
+                  came = came-array c (f .came) (h .3) (h .2);
                 });
           }
 
@@ -242,6 +242,6 @@ module _ {key : ℕ → Text} {P : ℕ → Type 0} {o i : Out} {made : Made} {r 
                   held = keyed (f .helds);
                   is = rw (f .is);
                   keys = f .keys;
-                  came = came-object c (f .came) (rw (f .counted) at (h .3)) (h .2);
+                  came = came-object c (f .came) (h .3) (h .2);
                 });
           }

@@ -2,6 +2,7 @@
 // Computes: Settled (by the relations in specs/Comes)
 use eval_extents::Extent;
 use eval_extents::clip;
+use eval_extents::length_inside;
 use eval_extents::with_more;
 use eval_writer::Out;
 use eval_writer::put_head;
@@ -54,8 +55,8 @@ pub fn headed(room: &mut [u8], o: Out, kind: u8, made: Made) -> Worked
     match made {
         Made::Needs(b) => Worked::Needs(b),
         Made::Done { count, extent } => {
-            put_head(room, o.rec, kind, count);
             let out = extent.out;
+            put_head(room, o.rec, kind, length_inside(o, out));
             Worked::Done(clip(out, extent.deep + 1))
         }
     }

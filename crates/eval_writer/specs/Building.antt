@@ -7,9 +7,9 @@ use native.Mathlib.Omega.{arith}
 use lib.ListN.{length}
 use Rattle.rules.specs.Bytes.{Text}
 use Rattle.rules.specs.Tree.{null, boolean, number, string}
-use Rattle.rules.specs.Values.{recordSize, textSize}
+use Rattle.rules.specs.Values.{recordSize, valueRecordSizes, memberRecordSizes, textSize}
 use Rattle.rules.specs.Sheet.{two, textRecord, scalarRecord}
-use Rattle.sheet_kept.specs.Kept.{Held, simple, listed, keyed, Helds, no-helds, HeldFields, no-fields, named, countHelds, countFields, keyRecord}
+use Rattle.sheet_kept.specs.Kept.{Held, simple, listed, keyed, Helds, no-helds, HeldFields, no-fields, named, namedAll, namedFields, keyRecord}
 use Rattle.sheet_kept.specs.Kept.{kept, keptAll, keptFields}
 use Rattle.sheet_kept.specs.InTurn.{flatScalar, flat, flatAll, flatFields, Word, wordsRec, wordsOf, extent}
 use Rattle.sheet_kept.specs.Sizes.{kept-records, value-extent}
@@ -83,9 +83,9 @@ all-more {key} {vs} {w} {o} {q} {r} {b} {x} {a} f g =
     }
 
 pub written-array : {key : ℕ → Text} {vs : Helds} {o r : Out} {b x a : List ℕ} → WrittenAll key vs (inside o) r b x
-    → Puts (o .rec .0) (6 ∷ two (countHelds vs)) x a → Written key (listed vs) o r b a
+    → Puts (o .rec .0) (6 ∷ two (valueRecordSizes (namedAll key vs))) x a → Written key (listed vs) o r b a
 unfolding kept flat wordsOf wordsRec two
-written-array {key} {vs} f h = record { is = wrote-head {hs = 6 ∷ two (countHelds vs)} refl (f .is) h }
+written-array {key} {vs} f h = record { is = wrote-head {hs = 6 ∷ two (valueRecordSizes (namedAll key vs))} refl (f .is) h }
 
 -- ---- fields
 
@@ -118,9 +118,9 @@ fields-more {key} {ms} {k} {w} {T} {s} {o} {p} {q} {r} {b} {x} {y} {a} f i h g =
     }
 
 pub written-object : {key : ℕ → Text} {ms : HeldFields} {o r : Out} {b x a : List ℕ} → WrittenFields key ms (inside o) r b x
-    → Puts (o .rec .0) (7 ∷ two (countFields ms)) x a → Written key (keyed ms) o r b a
+    → Puts (o .rec .0) (7 ∷ two (memberRecordSizes (namedFields key ms))) x a → Written key (keyed ms) o r b a
 unfolding kept flat wordsOf wordsRec two
-written-object {key} {ms} f h = record { is = wrote-head {hs = 7 ∷ two (countFields ms)} refl (f .is) h }
+written-object {key} {ms} f h = record { is = wrote-head {hs = 7 ∷ two (memberRecordSizes (namedFields key ms))} refl (f .is) h }
 
 -- ---- sizes: the counters tell the value's own
 

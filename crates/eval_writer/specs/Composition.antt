@@ -90,7 +90,7 @@ pub puts-all : (rs : List Rec) (l : List ℕ) (i : ℕ) → i + length (textsOf 
 unfolding puts wordsOf wordsRec textsOf textOf
 puts-all [] l i h = refl
 puts-all (plain b ∷ rs) l i h = puts-all rs l i h
-puts-all (head b n ∷ rs) l i h = puts-all rs l i h
+puts-all (head b n m ∷ rs) l i h = puts-all rs l i h
 puts-all (word b t ∷ rs) l i h = stored t rs l i h (λ q. puts-all rs (sets l i t) (i + length t) q)
 puts-all (name k t ∷ rs) l i h = stored t rs l i h (λ q. puts-all rs (sets l i t) (i + length t) q)
 

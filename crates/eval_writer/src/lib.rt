@@ -46,14 +46,14 @@ fn put_two(room: &mut [u8], at: RecAt, x: usize)
     put(room, RecAt(p + 1), low(x));
 }
 
-/// The record of an array or object: its kind and how many members it has. It may be written before or after them.
-pub fn put_head(room: &mut [u8], at: RecAt, kind: u8, count: usize)
+/// The record of an array or object: its kind and how long what is inside is. It may be written before or after that.
+pub fn put_head(room: &mut [u8], at: RecAt, kind: u8, inside: usize)
     requires { ⌜ Room (now room) × Near (at .0) ⌝ }
-    ensures { λ _. ⌜ Puts (at .0) (kind ∷ two count) (now (room .entry)) (now (room .exit)) ⌝ }
+    ensures { λ _. ⌜ Puts (at .0) (kind ∷ two inside) (now (room .entry)) (now (room .exit)) ⌝ }
 {
     let p = at.0;
     put(room, RecAt(p), kind);
-    put_two(room, RecAt(p + 1), count);
+    put_two(room, RecAt(p + 1), inside);
 }
 
 /// A record with two numbers.

@@ -1,12 +1,15 @@
 -- Laws of the functions: what each answer is, by what its place in the code knows.
-use mathlib.Core.Path.{_≡_, sym, ap, _∙_}
+use mathlib.Core.Path.{_≡_, refl, sym, ap, _∙_}
+use mathlib.Core.Bool.{Bool, true, false, cond}
 use mathlib.Core.List.{List}
-use Prim.Native.Nat.{ℕ, _+_, _-_, _*_, _/_, _%_, _≤_, _<_}
+use Prim.Native.Nat.{ℕ, zero, suc, _+_, _-_, _*_, _/_, _%_, _≤_, _<_}
 use native.Mathlib.Omega.{arith}
-use lib.ListN.{getD}
+use lib.ListN.{length, getD, List·getD-eq-default}
+use lib.Dec.{eqb}
 use borrow.Author.Tests.{lt-ltb, le-ltb, le-leb, lt-leb, eq-eqb, ne-eqb}
-use Rattle.sheet_forms.specs.Model.{shapeOf, textC, headC, keyC, recordBy, recordC}
-use Rattle.sheet_forms.specs.Contracts.{Wide, ShapeIs, TextIs, HeadIs, KeyIs, RecordIs, SizeIs, TextLenIs}
+use Rattle.sheet_forms.specs.Model.{shapeOf, endBy, endC, memberOf, countN, countC, membersC, textC, headC, countedC, keyC, recordBy, recordC}
+use Rattle.sheet_forms.specs.Contracts.{Wide, ShapeIs, PairIs, EndIs, CountIs, TextIs, HeadIs, CountedIs, KeyIs, RecordIs, SizeIs, TextLenIs}
+use Rattle.sheet_forms.specs.Ends.{count-end, count-step}
 use Rattle.sheet_forms.specs.declared.Form.{Form}
 use Rattle.sheet_forms.specs.declared.Shape.{Shape}
 use Rattle.sheet_forms.specs.declared.Record.{Record}
@@ -36,6 +39,91 @@ module _ {b : ℕ} where
 
 pub ruleset shape-laws = (shape-plain, shape-word, shape-head, shape-key, shape-other)
 
+-- ---- the end of a record
+
+pub byte-out : (s : List ℕ) (p : ℕ) → length s ≤ p → 0 ≡ getD s p 0
+byte-out s p h = sym (List·getD-eq-default s 0 h)
+
+pub pair-is : (s : List ℕ) (p : ℕ) {h l x y : ℕ} → h ≡ getD s p 0 → l ≡ getD s (p + 1) 0 → Wide h x → Wide l y → PairIs s p (x * 256 + y)
+pair-is s p e f i j = record { is = rw (i .is, j .is, e, f); small = omega (arith, i .small, j .small) }
+
+ends : (s : List ℕ) (p : ℕ) {b : ℕ} {k : Shape} (j : Shape) → b ≡ getD s p 0 → ShapeIs b k → k ≡ j → endBy j s p ≡ endC s p
+unfolding endC
+ends s p j e f i = rw (← e, ← f .is, i)
+
+module _ {s : List ℕ} {p b : ℕ} {k : Shape} (e : b ≡ getD s p 0) (f : ShapeIs b k) where
+  pub end-plain : k ≡ Shape.Plain → EndIs s p (p + 1)
+  end-plain i = record { is = ends s p Shape.Plain e f i; low = omega arith; high = omega arith }
+
+  pub end-word : k ≡ Shape.Word → EndIs s p (p + 5)
+  end-word i = record { is = ends s p Shape.Word e f i; low = omega arith; high = omega arith }
+
+  pub end-key : k ≡ Shape.Key → EndIs s p (p + 5)
+  end-key i = record { is = ends s p Shape.Key e f i; low = omega arith; high = omega arith }
+
+  pub end-head : {n : ℕ} → k ≡ Shape.Head → PairIs s (p + 1) n → EndIs s p (p + 3 + n)
+  end-head {n} i j = record { is = ap (λ (m : ℕ). p + 3 + m) (j .is) ∙ ends s p Shape.Head e f i; low = omega arith; high = omega (arith, j .small) }
+
+pub ruleset end-laws = (end-plain, end-word, end-key, end-head)
+
+-- ---- members counted
+
+module _ (n b : ℕ) where
+  pub key-alone : b ≡ 8 → n ≡ n + memberOf b
+  key-alone e = rw (eq-eqb b 8 e) (omega arith)
+
+  pub one-member : (b ≡ 8 → ⊥) → n + 1 ≡ n + memberOf b
+  one-member e = rw (ne-eqb b 8 e)
+
+pub ruleset member-laws = (key-alone, one-member)
+
+-- those so far, and those still to count
+pub record Counting (s : List ℕ) (from end p n : ℕ) : Type 0 where
+  pub fuel : ℕ
+  pub enough : end - p ≤ fuel
+  pub is : countC s end from ≡ n + countN fuel s end p
+  pub few : n ≤ p
+
+module _ {s : List ℕ} {from end : ℕ} where
+  pub counting-start : Counting s from end from 0
+  unfolding countC
+  counting-start = record { fuel = end - from; enough = omega arith; is = omega arith; few = omega arith }
+
+  module _ {p n : ℕ} (I : Counting s from end p n) where
+    pub counting-end : end ≤ p → CountIs s from end n
+    counting-end l = record { is = omega (arith, I .is, count-end s end (I .fuel) p l) }
+
+    pub counting-near : p < end → end ≤ 1099511627776 → n ≤ 1099511627776
+    counting-near l m = omega (arith, I .few)
+
+    pub counting-less : p < end → {q : ℕ} → EndIs s p q → end - q < end - p
+    counting-less l e = omega (arith, e .low)
+
+    pub counting-step : {b m q : ℕ} → p < end → b ≡ getD s p 0 → m ≡ n + memberOf b → EndIs s p q → Counting s from end q m
+    counting-step {b} {m} {q} l e f g = go (I .fuel) (I .enough) (I .is)
+      where
+        small : (c : ℕ) → memberOf c ≤ 1
+        small c = go (eqb c 8)
+          where
+            go : (t : Bool) → cond t 0 1 ≤ 1
+            go true = omega arith
+            go false = omega arith
+
+        go : (w : ℕ) → end - p ≤ w → countC s end from ≡ n + countN w s end p → Counting s from end q m
+        go zero o i = absurd (omega arith)
+        go (suc w) o i =
+            let h : countN (suc w) s end p ≡ memberOf b + countN w s end q =
+            count-step s end w p q (memberOf b) (countN w s end q) l (ap memberOf (sym e)) (sym (g .is)) refl in
+            record { fuel = w; enough = omega (arith, g .low); is = omega arith; few = omega (arith, g .low, I .few, small b) }
+
+pub ruleset count-laws = (counting-start, counting-end, counting-near, counting-less, counting-step)
+
+pub members-are : {s : List ℕ} {p e n : ℕ} → EndIs s p e → CountIs s (p + 3) e n → n ≡ membersC s p
+unfolding membersC
+members-are e c = c .is ∙ rw (e .is)
+
+-- ---- one record
+
 shaped : (form : Form) (s : List ℕ) (len p t : ℕ) (k j : Shape) → p < len → ShapeIs (getD s p 0) k → k ≡ j → recordBy form j s len p t ≡ recordC form s len p t
 unfolding recordC
 shaped form s len p t k j h e i = rw (lt-leb len p h, ← e .is, i)
@@ -58,6 +146,14 @@ module _ {s : List ℕ} {len p : ℕ} where
   unfolding headC
   head-three h = record { is = rw (le-ltb (len - p) 3 h); fits = omega arith }
 
+  pub counted-cut : p < len → len - p < 3 → CountedIs s len p Record.End
+  unfolding countedC
+  counted-cut i h = record { is = rw (lt-ltb (len - p) 3 h); fits = omega arith }
+
+  pub counted-three : {n c d : ℕ} → 3 ≤ len - p → n ≡ membersC s p → c ≡ n / 256 % 256 → d ≡ n % 256 → CountedIs s len p (Record.Three (getD s p 0) c d)
+  unfolding countedC
+  counted-three h e f g = record { is = rw (le-ltb (len - p) 3 h, f, g, e); fits = omega arith }
+
   pub key-cut : p < len → len - p < 5 → KeyIs s len p Record.End
   unfolding keyC
   key-cut i h = record { is = rw (lt-ltb (len - p) 5 h); fits = omega arith }
@@ -77,9 +173,13 @@ module _ {s : List ℕ} {len p : ℕ} where
       unfolding recordBy
       record-plain i = record { is = shaped form s len p t k Shape.Plain h e i; fits = λ q. omega arith }
 
-      pub record-head : {r : Record} → k ≡ Shape.Head → HeadIs s len p r → RecordIs form s len p t r
+      pub record-kept-head : {r : Record} → k ≡ Shape.Head → form ≡ Form.Kept → HeadIs s len p r → RecordIs form s len p t r
       unfolding recordBy
-      record-head i f = record { is = f .is ∙ shaped form s len p t k Shape.Head h e i; fits = λ q. f .fits }
+      record-kept-head i j f = record { is = f .is ∙ ap (λ (q : Form). recordBy q Shape.Head s len p t) (sym j) ∙ shaped form s len p t k Shape.Head h e i; fits = λ q. f .fits }
+
+      pub record-public-head : {r : Record} → k ≡ Shape.Head → form ≡ Form.Public → CountedIs s len p r → RecordIs form s len p t r
+      unfolding recordBy
+      record-public-head i j f = record { is = f .is ∙ ap (λ (q : Form). recordBy q Shape.Head s len p t) (sym j) ∙ shaped form s len p t k Shape.Head h e i; fits = λ q. f .fits }
 
       pub record-word : {r : Record} → k ≡ Shape.Word → TextIs s len p t r → RecordIs form s len p t r
       unfolding recordBy
@@ -97,9 +197,11 @@ pub ruleset text-laws = (text-cut, text-five)
 
 pub ruleset head-laws = (head-cut, head-three)
 
+pub ruleset counted-laws = (counted-cut, counted-three)
+
 pub ruleset key-laws = (key-cut, key-five)
 
-pub ruleset record-laws = (record-end, record-plain, record-head, record-word, record-public-key, record-kept-key)
+pub ruleset record-laws = (record-end, record-plain, record-kept-head, record-public-head, record-word, record-public-key, record-kept-key)
 
 module _ {r : Record} where
   pub size-end : r ≡ Record.End → SizeIs r 0

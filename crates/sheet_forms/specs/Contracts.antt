@@ -1,9 +1,9 @@
 -- What the functions promise, by the model.
 use mathlib.Core.Path.{_≡_}
-use Prim.Native.Nat.{ℕ, _+_, _≤_}
+use Prim.Native.Nat.{ℕ, _+_, _≤_, _<_}
 use mathlib.Core.List.{List}
 use lib.ListN.{length}
-use Rattle.sheet_forms.specs.Model.{shapeOf, textC, headC, keyC, recordC, sizeOf, textLenOf}
+use Rattle.sheet_forms.specs.Model.{shapeOf, pairC, endC, countC, textC, headC, countedC, keyC, recordC, sizeOf, textLenOf}
 use Rattle.sheet_forms.specs.declared.Form.{Form}
 use Rattle.sheet_forms.specs.declared.Shape.{Shape}
 use Rattle.sheet_forms.specs.declared.Record.{Record}
@@ -23,12 +23,40 @@ Lent s len = (len ≤ length s) × (len ≤ twoBytes)
 pub record ShapeIs (b : ℕ) (k : Shape) : Type 0 where
   pub is : k ≡ shapeOf b
 
+-- To a place that is near a record's length may be added, to one that is close a few bytes: no sum wraps.
+abbrev pub Near : ℕ → Type 0
+Near n = n ≤ 1099511627776
+
+-- a job's bytes are fewer
+abbrev pub farthest : ℕ
+farthest = 2097152
+
+abbrev pub Close : ℕ → Type 0
+Close n = n ≤ 4611686018427387904
+
+pub record PairIs (s : List ℕ) (p r : ℕ) : Type 0 where
+  pub is : r ≡ pairC s p
+  pub small : r ≤ 65535
+
+-- the end of a record is behind it, at most as far as two bytes say
+pub record EndIs (s : List ℕ) (p r : ℕ) : Type 0 where
+  pub is : r ≡ endC s p
+  pub low : p < r
+  pub high : r ≤ p + 65538
+
+pub record CountIs (s : List ℕ) (p end r : ℕ) : Type 0 where
+  pub is : r ≡ countC s end p
+
 pub record TextIs (s : List ℕ) (len p t : ℕ) (r : Record) : Type 0 where
   pub is : r ≡ textC s len p t
   pub fits : p + sizeOf r ≤ len
 
 pub record HeadIs (s : List ℕ) (len p : ℕ) (r : Record) : Type 0 where
   pub is : r ≡ headC s len p
+  pub fits : p + sizeOf r ≤ len
+
+pub record CountedIs (s : List ℕ) (len p : ℕ) (r : Record) : Type 0 where
+  pub is : r ≡ countedC s len p
   pub fits : p + sizeOf r ≤ len
 
 pub record KeyIs (s : List ℕ) (len p : ℕ) (r : Record) : Type 0 where

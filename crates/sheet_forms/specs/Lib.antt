@@ -1,4 +1,5 @@
 pub mod Model
 pub mod Contracts
+pub mod Ends
 pub mod Sheet
 mod Examples

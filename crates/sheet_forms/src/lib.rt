@@ -7,19 +7,22 @@ use text_chars::RecLen;
 use text_chars::TextAt;
 use text_chars::TextLen;
 ghost use mathlib.Core.Path.{_≡_};
-ghost use Prim.Native.Nat.{_/_, _%_, _<_};
-ghost use Rattle.sheet_forms.specs.Contracts.{Wide, ShapeIs, Lent, TextIs, HeadIs, KeyIs, RecordIs, SizeIs, TextLenIs};
+ghost use Prim.Native.Nat.{_+_, _/_, _%_, _≤_, _<_};
+ghost use lib.ListN.{getD};
+ghost use Rattle.sheet_forms.specs.Model.{memberOf, membersC};
+ghost use Rattle.sheet_forms.specs.Contracts.{Wide, ShapeIs, Near, Close, PairIs, EndIs, CountIs};
+ghost use Rattle.sheet_forms.specs.Contracts.{farthest, Lent, TextIs, HeadIs, CountedIs, KeyIs, RecordIs, SizeIs, TextLenIs};
 
-/// How many bytes a record with a count has, and one with a text.
+/// How many bytes the record of an array or object has, and one with a text.
 pub const HEAD: usize = 3;
 
 pub const WORD: usize = 5;
 
 /// The two forms of a value's records.
 pub enum Form {
-    /// a key has its number, as the evaluator reads it
+    /// a key has its number, an array or object how long what is inside is, as the evaluator reads them
     Kept,
-    /// a key has its text's offset, as document 01 has it
+    /// a key has its text's offset, an array or object its count of members, as document 01 has them
     Public,
 }
 
@@ -27,7 +30,7 @@ pub enum Form {
 pub enum Shape {
     /// nothing
     Plain,
-    /// a count of members
+    /// how long what is inside is; in document 01's form, how many members there are
     Head,
     /// a text
     Word,
@@ -41,7 +44,7 @@ pub enum Record {
     End,
     /// a kind
     One { b: u8 },
-    /// a kind and a count
+    /// a kind and a count or a length
     Three { b: u8, c: u8, d: u8 },
     /// a kind, an offset or a number, and a text's length
     Five { b: u8, c: u8, d: u8, e: u8, f: u8 },
@@ -104,6 +107,99 @@ fn text_record(room: &[u8], len: RecLen, at: RecAt, t: TextAt) -> Record
     Record::Five { b, c, d, e, f }
 }
 
+/// The byte at a place, 0 past the end, which is no value's.
+pub fn kind_at(s: &[u8], at: RecAt) -> u8
+    ensures { λ r. ⌜ r ≡ getD (now (s .entry)) (at .0) 0 ⌝ }
+{
+    let p = at.0;
+    if p < s.len() {
+        return s[p];
+    }
+    0
+}
+
+/// Two bytes as a number, the high one first; past the end each is 0.
+pub fn pair_at(s: &[u8], at: RecAt) -> usize
+    requires { ⌜ Close (at .0) ⌝ }
+    ensures { λ r. ⌜ PairIs (now (s .entry)) (at .0) r ⌝ }
+{
+    let p = at.0;
+    let high = wide(kind_at(s, RecAt(p)));
+    let low = wide(kind_at(s, RecAt(p + 1)));
+    high * 256 + low
+}
+
+/// Where the record at a place ends with all that is inside it: an array's and an object's has how long that is.
+pub fn record_end(s: &[u8], at: RecAt) -> RecAt
+    requires { ⌜ Near (at .0) ⌝ }
+    ensures { λ r. ⌜ EndIs (now (s .entry)) (at .0) (r .0) ⌝ }
+{
+    let p = at.0;
+    match shape_of(kind_at(s, at)) {
+        Shape::Plain => RecAt(p + 1),
+        Shape::Word => RecAt(p + WORD),
+        Shape::Key => RecAt(p + WORD),
+        Shape::Head => {
+            let n = pair_at(s, RecAt(p + 1));
+            RecAt(p + HEAD + n)
+        }
+    }
+}
+
+// So many members and one more, but for a key: its member is the value behind it.
+fn with_member(n: usize, kind: u8) -> usize
+    requires { ⌜ Near n ⌝ }
+    ensures { λ r. ⌜ r ≡ n + memberOf kind ⌝ }
+{
+    if kind == kinds::KEY {
+        return n;
+    }
+    n + 1
+}
+
+// How many members stand from one place up to another.
+fn count_up_to(s: &[u8], from: RecAt, end: RecAt) -> usize
+    requires { ⌜ Near (end .0) ⌝ }
+    ensures { λ r. ⌜ CountIs (now (s .entry)) (from .0) (end .0) r ⌝ }
+{
+    let mut p = from.0;
+    let mut n = 0;
+    let e = end.0;
+    while p < e {
+        let kind = kind_at(s, RecAt(p));
+        n = with_member(n, kind);
+        let next = record_end(s, RecAt(p));
+        p = next.0;
+    }
+    n
+}
+
+/// How many members the array or object at a place has.
+pub fn count_members(s: &[u8], at: RecAt) -> usize
+    requires { ⌜ at .0 ≤ farthest ⌝ }
+    ensures { λ r. ⌜ r ≡ membersC (now (s .entry)) (at .0) ⌝ }
+{
+    let p = at.0;
+    let end = record_end(s, at);
+    count_up_to(s, RecAt(p + HEAD), end)
+}
+
+// A record of an array or object as document 01 has it: with how many members there are.
+fn counted_record(room: &[u8], len: RecLen, at: RecAt) -> Record
+    requires { ⌜ Lent (now room) (len .0) × (at .0 < len .0) ⌝ }
+    ensures { λ r. ⌜ CountedIs (now (room .entry)) (len .0) (at .0) r ⌝ }
+{
+    let p = at.0;
+    if len.0 - p < HEAD {
+        return Record::End;
+    }
+    let b = room[p];
+    let n = count_members(room, at);
+    let c = high(n);
+    let d = low(n);
+    Record::Three { b, c, d }
+}
+
 // A record of an array or object, as it is.
 fn head_record(room: &[u8], len: RecLen, at: RecAt) -> Record
     requires { ⌜ Lent (now room) (len .0) × (at .0 < len .0) ⌝ }
@@ -148,7 +244,10 @@ pub fn record_at(room: &[u8], len: RecLen, form: Form, at: RecAt, t: TextAt) -> 
     let b = room[p];
     match shape_of(b) {
         Shape::Plain => Record::One { b },
-        Shape::Head => head_record(room, len, at),
+        Shape::Head => match form {
+            Form::Kept => head_record(room, len, at),
+            Form::Public => counted_record(room, len, at),
+        },
         Shape::Word => text_record(room, len, at, t),
         Shape::Key => match form {
             Form::Kept => key_record(room, len, at),

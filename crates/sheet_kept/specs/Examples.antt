@@ -22,8 +22,8 @@ table-laid : layout ab 1 sheetTable ≡ 7 ∷ 0 ∷ 2 ∷ 8 ∷ 0 ∷ 1 ∷ 0 �
 unfolding layout
 table-laid = refl
 
--- a key's number in place of its text's offset; the running number passes over its text
-table-kept : kept ab 1 sheetTable ≡ 7 ∷ 0 ∷ 2 ∷ 8 ∷ 0 ∷ 1 ∷ 0 ∷ 1 ∷ 4 ∷ 0 ∷ 2 ∷ 0 ∷ 1 ∷ 8 ∷ 0 ∷ 2 ∷ 0 ∷ 1 ∷ 4 ∷ 0 ∷ 4 ∷ 0 ∷ 1 ∷ []
+-- a key's number in place of its text's offset, the length of what is inside in place of the count; the running number passes over a key's text
+table-kept : kept ab 1 sheetTable ≡ 7 ∷ 0 ∷ 20 ∷ 8 ∷ 0 ∷ 1 ∷ 0 ∷ 1 ∷ 4 ∷ 0 ∷ 2 ∷ 0 ∷ 1 ∷ 8 ∷ 0 ∷ 2 ∷ 0 ∷ 1 ∷ 4 ∷ 0 ∷ 4 ∷ 0 ∷ 1 ∷ []
 unfolding kept
 table-kept = refl
 
@@ -42,7 +42,7 @@ value =
     (field 260 (listed (also (simple null) (also (simple (string (120 ∷ 121 ∷ []))) no-helds))) no-fields))
 
 abbrev pub asKept : List ℕ
-asKept = 7 ∷ 0 ∷ 2 ∷ 8 ∷ 0 ∷ 3 ∷ 0 ∷ 1 ∷ 4 ∷ 0 ∷ 1 ∷ 0 ∷ 2 ∷ 8 ∷ 1 ∷ 4 ∷ 0 ∷ 1 ∷ 6 ∷ 0 ∷ 2 ∷ 1 ∷ 5 ∷ 0 ∷ 4 ∷ 0 ∷ 2 ∷ []
+asKept = 7 ∷ 0 ∷ 24 ∷ 8 ∷ 0 ∷ 3 ∷ 0 ∷ 1 ∷ 4 ∷ 0 ∷ 1 ∷ 0 ∷ 2 ∷ 8 ∷ 1 ∷ 4 ∷ 0 ∷ 1 ∷ 6 ∷ 0 ∷ 6 ∷ 1 ∷ 5 ∷ 0 ∷ 4 ∷ 0 ∷ 2 ∷ []
 
 -- from the offset 256 on
 abbrev pub asLaid : List ℕ

@@ -8,36 +8,36 @@ use native.Mathlib.Omega.{arith}
 use lib.ListN.{length, length-append}
 use Rattle.rules.specs.Bytes.{Text}
 use Rattle.rules.specs.Tree.{Scalar, null, boolean, number, string}
-use Rattle.rules.specs.Values.{countValues, countMembers, ownText, textSize}
+use Rattle.rules.specs.Values.{countValues, countMembers, ownText, recordSize, valueRecordSizes, memberRecordSizes, textSize}
 use Rattle.rules.specs.Sheet.{two, textRecord, scalarRecord, records, valueRecords, memberRecords, texts, valueTexts, memberTexts}
 use Rattle.theory.specs.Layout.{length-texts}
 use Rattle.sheet_kept.specs.Kept.{Held, simple, listed, keyed, Helds, no-helds, also, HeldFields, no-fields, field, named, namedAll, namedFields}
 use Rattle.sheet_kept.specs.Kept.{countHelds, countFields, keyRecord, kept, keptAll, keptFields, layout}
 
--- a record: of one byte; with a count; with a text; a key's, with its number and its text
+-- a record: of one byte; with how many members there are and how long they are; with a text; a key's, with its number and its text
 pub data Rec : Type 0 where
   plain : ℕ → Rec
-  head : ℕ → ℕ → Rec
+  head : ℕ → ℕ → ℕ → Rec
   word : ℕ → Text → Rec
   name : ℕ → Text → Rec
 
 unfoldable pub textOf : Rec → Text
 textOf (plain b) = []
-textOf (head b n) = []
+textOf (head b n m) = []
 textOf (word b t) = t
 textOf (name k t) = t
 
 unfoldable pub keptRec : ℕ → Rec → List ℕ
 unfolding textRecord keyRecord two
 keptRec t (plain b) = b ∷ []
-keptRec t (head b n) = b ∷ two n
+keptRec t (head b n m) = b ∷ two m
 keptRec t (word b x) = textRecord b t x
 keptRec t (name k x) = keyRecord k x
 
 unfoldable pub laidRec : ℕ → Rec → List ℕ
 unfolding textRecord two
 laidRec t (plain b) = b ∷ []
-laidRec t (head b n) = b ∷ two n
+laidRec t (head b n m) = b ∷ two n
 laidRec t (word b x) = textRecord b t x
 laidRec t (name k x) = textRecord 8 t x
 
@@ -60,12 +60,12 @@ flatScalar (number t) = word 4 t ∷ []
 flatScalar (string t) = word 5 t ∷ []
 
 unfoldable mutual
-  unfolding flatScalar countHelds countFields
+  unfolding flatScalar countHelds countFields named recordSize
 
   pub flat : (ℕ → Text) → Held → List Rec
   flat key (simple x) = flatScalar x
-  flat key (listed vs) = head 6 (countHelds vs) ∷ flatAll key vs
-  flat key (keyed ms) = head 7 (countFields ms) ∷ flatFields key ms
+  flat key (listed vs) = head 6 (countHelds vs) (valueRecordSizes (namedAll key vs)) ∷ flatAll key vs
+  flat key (keyed ms) = head 7 (countFields ms) (memberRecordSizes (namedFields key ms)) ∷ flatFields key ms
 
   pub flatAll : (ℕ → Text) → Helds → List Rec
   flatAll key no-helds = []
@@ -81,7 +81,7 @@ Word = ℕ × List ℕ
 
 unfoldable pub wordsRec : Rec → List Word
 wordsRec (plain b) = []
-wordsRec (head b n) = []
+wordsRec (head b n m) = []
 wordsRec (word b t) = (length t, t) ∷ []
 wordsRec (name k t) = (length t, t) ∷ []
 
@@ -168,8 +168,12 @@ mutual
 
   pub kept-flat : (key : ℕ → Text) (t : ℕ) (v : Held) → kept key t v ≡ inTurn keptRec t (flat key v)
   kept-flat key t (simple x) = flat-scalar-kept t x
-  kept-flat key t (listed vs) = ap (λ (x : List ℕ). 6 ∷ two (countHelds vs) ++ x) (kept-flat-all key t vs ∙ ap (λ (x : ℕ). inTurn keptRec x (flatAll key vs)) (plain-text t))
-  kept-flat key t (keyed ms) = ap (λ (x : List ℕ). 7 ∷ two (countFields ms) ++ x) (kept-flat-fields key t ms ∙ ap (λ (x : ℕ). inTurn keptRec x (flatFields key ms)) (plain-text t))
+  kept-flat key t (listed vs) =
+      ap (λ (x : List ℕ). 6 ∷ two (valueRecordSizes (namedAll key vs)) ++ x)
+      (kept-flat-all key t vs ∙ ap (λ (x : ℕ). inTurn keptRec x (flatAll key vs)) (plain-text t))
+  kept-flat key t (keyed ms) =
+      ap (λ (x : List ℕ). 7 ∷ two (memberRecordSizes (namedFields key ms)) ++ x)
+      (kept-flat-fields key t ms ∙ ap (λ (x : ℕ). inTurn keptRec x (flatFields key ms)) (plain-text t))
 
   pub kept-flat-all : (key : ℕ → Text) (t : ℕ) (vs : Helds) → keptAll key t vs ≡ inTurn keptRec t (flatAll key vs)
   kept-flat-all key t no-helds = refl

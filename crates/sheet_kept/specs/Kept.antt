@@ -1,11 +1,13 @@
--- Values whose keys are numbers, and their records as kept: document 01's byte for byte, but for a key's. There the two bytes of the
--- text's offset are the key's number, so that keys are compared as numbers; the key's text stands among the texts all the same.
+-- Values whose keys are numbers, and their records as kept: as long as document 01's, record for record, and the same but for two. In a key's
+-- the two bytes of the text's offset are the key's number, so that keys are compared as numbers; the key's text stands among the texts all the
+-- same. In an array's and an object's the two bytes of the count are how long what is inside is, so that its end is known without a walk.
 use Prim.Native.Nat.{ℕ, suc, _+_}
 use mathlib.Core.List.{List, [], _∷_, _++_}
 use lib.ListN.{length}
 use Rattle.rules.specs.Bytes.{Text}
 use Rattle.rules.specs.Tree.{Scalar}
-use Rattle.rules.specs.Values.{Value, scalar, arrayOf, objectOf, Values, no-values, val, Members, no-members, member, textSize}
+use Rattle.rules.specs.Values.{Value, scalar, arrayOf, objectOf, Values, no-values, val, Members, no-members, member}
+use Rattle.rules.specs.Values.{recordSize, valueRecordSizes, memberRecordSizes, textSize}
 use Rattle.rules.specs.Sheet.{two, scalarRecord, records}
 
 mutual
@@ -53,12 +55,12 @@ keyRecord k t = 8 ∷ two k ++ two (length t)
 
 -- the records as kept, their texts from an offset on
 unfoldable mutual
-  unfolding scalarRecord keyRecord two named textSize countHelds countFields
+  unfolding scalarRecord keyRecord two named recordSize textSize
 
   pub kept : (ℕ → Text) → ℕ → Held → List ℕ
   kept key t (simple x) = scalarRecord t x
-  kept key t (listed vs) = 6 ∷ two (countHelds vs) ++ keptAll key t vs
-  kept key t (keyed ms) = 7 ∷ two (countFields ms) ++ keptFields key t ms
+  kept key t (listed vs) = 6 ∷ two (valueRecordSizes (namedAll key vs)) ++ keptAll key t vs
+  kept key t (keyed ms) = 7 ∷ two (memberRecordSizes (namedFields key ms)) ++ keptFields key t ms
 
   pub keptAll : (ℕ → Text) → ℕ → Helds → List ℕ
   keptAll key t no-helds = []

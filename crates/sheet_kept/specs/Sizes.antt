@@ -7,10 +7,10 @@ use native.Mathlib.Omega.{arith}
 use lib.ListN.{length, length-append}
 use Rattle.rules.specs.Bytes.{Text}
 use Rattle.rules.specs.Tree.{Scalar, null, boolean, number, string}
-use Rattle.rules.specs.Values.{textSize, recordSize}
+use Rattle.rules.specs.Values.{textSize, recordSize, valueRecordSizes, memberRecordSizes}
 use Rattle.rules.specs.Sheet.{two, textRecord, scalarRecord}
 use Rattle.theory.specs.Layout.{length-records}
-use Rattle.sheet_kept.specs.Kept.{Held, simple, listed, keyed, Helds, no-helds, also, HeldFields, no-fields, field, named}
+use Rattle.sheet_kept.specs.Kept.{Held, simple, listed, keyed, Helds, no-helds, also, HeldFields, no-fields, field, named, namedAll, namedFields}
 use Rattle.sheet_kept.specs.Kept.{countHelds, countFields, keyRecord, kept, keptAll, keptFields, layout}
 use Rattle.sheet_kept.specs.InTurn.{Rec, plain, head, word, name, textOf, keptRec, laidRec, inTurn, textsOf, flat, Word, wordsRec, wordsOf, extent}
 use Rattle.sheet_kept.specs.InTurn.{flat-size, kept-flat, layout-flat}
@@ -26,7 +26,7 @@ same-size t u (r ∷ rs) =
   where
     one : (r : Rec) → length (keptRec t r) ≡ length (laidRec u r)
     one (plain b) = refl
-    one (head b n) = refl
+    one (head b n m) = refl
     one (word b x) = refl
     one (name k x) = refl
 
@@ -37,6 +37,15 @@ kept-size key t u v = ap length (kept-flat key t v) ∙ same-size t u (flat key 
 pub kept-records : (key : ℕ → Text) (t : ℕ) (v : Held) → length (kept key t v) ≡ recordSize (named key v)
 unfolding layout
 kept-records key t v = kept-size key t 0 v ∙ length-records 0 (named key v)
+
+-- what is inside an array or object is as long as its record says
+pub all-records : (key : ℕ → Text) (t : ℕ) (vs : Helds) → length (keptAll key t vs) ≡ valueRecordSizes (namedAll key vs)
+unfolding kept named recordSize two
+all-records key t vs = let e = kept-records key t (listed vs) in omega arith
+
+pub fields-records : (key : ℕ → Text) (t : ℕ) (ms : HeldFields) → length (keptFields key t ms) ≡ memberRecordSizes (namedFields key ms)
+unfolding kept named recordSize two
+fields-records key t ms = let e = kept-records key t (keyed ms) in omega arith
 
 pub kept-length : (key : ℕ → Text) (t u : ℕ) (v : Held) → length (kept key t v) ≡ length (kept key u v)
 kept-length key t u v = ap length (kept-flat key t v) ∙ same-size t 0 (flat key v) ∙ sym (same-size u 0 (flat key v)) ∙ ap length (sym (kept-flat key u v))
@@ -81,7 +90,7 @@ pub words-extent : (rs : List Rec) → extent (wordsOf rs) ≡ length (textsOf r
 unfolding wordsOf wordsRec extent textsOf textOf
 words-extent [] = refl
 words-extent (plain b ∷ rs) = words-extent rs
-words-extent (head b n ∷ rs) = words-extent rs
+words-extent (head b n m ∷ rs) = words-extent rs
 words-extent (word b t ∷ rs) = omega (arith, words-extent rs, length-append t (textsOf rs))
 words-extent (name k t ∷ rs) = omega (arith, words-extent rs, length-append t (textsOf rs))
 

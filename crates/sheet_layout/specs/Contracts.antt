@@ -37,6 +37,7 @@ pub record Holds (key : ℕ → Text) (v : Held) (s : List ℕ) (len : ℕ) : Ty
   pub from : ℕ
   pub stands : take len s ≡ kept key from v
   pub few : textSize (named key v) < twoBytes
+  pub short : len < twoBytes
 
 -- a value's records in a form
 abbrev pub formed : Form → (ℕ → Text) → ℕ → Held → List ℕ

@@ -11,7 +11,7 @@ use borrow.Author.Tests.{le-leb}
 use Rattle.rules.specs.Bytes.{Text}
 use Rattle.sheet_kept.specs.Kept.{Held, kept, layout}
 use Rattle.sheet_kept.specs.InTurn.{Rec, textOf, keptRec, inTurn, textsOf, flat, flat-size, kept-flat, layout-flat}
-use Rattle.sheet_kept.specs.Sizes.{kept-size}
+use Rattle.sheet_kept.specs.Sizes.{kept-size, kept-records}
 use Rattle.sheet_forms.specs.Model.{recordC, codeOf, sizeOf, textLenOf}
 use Rattle.sheet_forms.specs.Sheet.{Rights, flat-right, recordOf, recForm, read, record-code, record-some, record-size, record-more}
 use Rattle.sheet_layout.specs.Model.{laysBy, lays, eqAt}
@@ -53,7 +53,7 @@ module _ (form : Form) (s : List ℕ) (len : ℕ) where
       let some : 1 ≤ length a = some-size (sizeOf (recordOf form t r)) (record-some form t r) m in
       let h′ : drop p s ≡ a ++ (b ++ rest) = h ∙ append-assoc a b rest in
       let d : drop (p + length a) s ≡ b ++ rest = sym (drop-drop (length a) p s) ∙ ap (drop (length a)) h′ ∙ drop-append-seam a (b ++ rest) in
-      let rd : recordC form s len p t ≡ recordOf form t r = read s len p t u (omega arith) form r (b ++ rest) (k .0) h′ (omega arith) in
+      let rd : recordC form s len p t ≡ recordOf form t r = read s len p t u (omega arith) form r rs rest (k .0) h′ (omega arith) in
       step n rd m more (λ j i. lays-flat rs j (p + length a) (t + length x) (u + length x) rest (k .1) (omega arith) d (omega arith) i) (omega arith) l
     where
       some-size : {q : ℕ} (z : ℕ) → (z ≡ 0 → ⊥) → z ≡ q → 1 ≤ q
@@ -81,7 +81,7 @@ module _ (key : ℕ → Text) (v : Held) (s : List ℕ) (len : ℕ) (h : Holds k
   pub lays-value : (form : Form) (t : ℕ) → lays form len s len 0 t ≡ formed form key t v
   lays-value form t =
       let f = kept-flat key (h .from) v in
-      lays-flat form s len (flat key v) len 0 t (h .from) (drop len s) (flat-right key v) (rw (flat-size key v) (h .few))
+      lays-flat form s len (flat key v) len 0 t (h .from) (drop len s) (flat-right key v (omega (arith, kept-records key (h .from) v, holds-length, h .short))) (rw (flat-size key v) (h .few))
       (sym (take-append-drop len s) ∙ ap (λ (x : List ℕ). x ++ drop len s) (h .stands ∙ f)) (omega (arith, ap length (sym f), holds-length)) (omega arith)
       ∙ sym (formed-flat form t)
 

@@ -1,5 +1,5 @@
--- laws: record-kids
-use Rattle.eval_members.proofs.Looks.{record-kids}
+-- laws: member-record
+use Rattle.eval_members.proofs.Looks.{member-record}
 use borrow.Author.Needs.{needs}
 use Rattle.eval_members.proofs.record_member.Statement.{statement}
 use Rattle.eval_members.proofs.record_member.Tie as tie
@@ -12,9 +12,5 @@ record-member-spec =
     (λ c κs. search needs)
     (λ c. search needs)
     (λ c. search needs)
-    (λ c. search record-kids)
     (λ c. search needs)
-    (λ c. search needs)
-    (λ c. search record-kids)
-    (λ c. search record-kids)
-    (λ c. search record-kids))
+    (λ c. search member-record))

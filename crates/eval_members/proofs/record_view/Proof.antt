@@ -14,7 +14,4 @@ record-view-spec =
     (λ c. search needs)
     (λ c. search needs)
     (λ c. search record-views)
-    (λ c. search record-views)
-    (λ c. search needs)
-    (λ c. search record-views)
     (λ c. search record-views))

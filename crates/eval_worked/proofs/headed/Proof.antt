@@ -11,6 +11,7 @@ headed-spec =
     (λ c. search needs)
     (λ c. search needs)
     (λ c κs. search needs)
+    (λ c κs. search needs)
     (λ c. search headed-laws)
     (λ c κs. search needs)
     (λ c. search headed-laws)

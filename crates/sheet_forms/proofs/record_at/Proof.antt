@@ -16,6 +16,9 @@ record-at-spec =
     (λ c κs. search needs)
     (λ c. search needs)
     (λ c. search needs)
+    (λ c. search needs)
+    (λ c κs. search needs)
+    (λ c. search needs)
     (λ c κs. search needs)
     (λ c. search needs)
     (λ c κs. search needs)
@@ -25,6 +28,7 @@ record-at-spec =
     (λ c. search needs)
     (λ c κs. search needs)
     returns-2
+    (λ c. search record-laws)
     (λ c. search record-laws)
     (λ c. search record-laws)
     (λ c. search record-laws)

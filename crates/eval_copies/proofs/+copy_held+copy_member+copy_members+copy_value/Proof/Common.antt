@@ -18,7 +18,7 @@ use Rattle.eval_record_copies.proofs.copy_key.Reads as copy-key-reads
 use Rattle.eval_record_copies.proofs.copy_plain.Reads as copy-plain-reads
 use Rattle.eval_record_copies.proofs.copy_word.Reads as copy-word-reads
 use Rattle.eval_copies.proofs.deepest.Reads as deepest-reads
-use Rattle.eval_records.proofs.kind_at.Reads as kind-at-reads
+use Rattle.sheet_forms.proofs.kind_at.Reads as kind-at-reads
 use Rattle.eval_copies.proofs.one_deeper.Reads as one-deeper-reads
 use Rattle.eval_record_copies.proofs.copy_head.Reads as copy-head-reads
 use Rattle.sheet_forms.proofs.shape_of.Reads as shape-of-reads

@@ -1,9 +1,11 @@
+-- laws: pair-is
+use Rattle.sheet_forms.proofs.Forms.{pair-is}
 use borrow.Author.Needs.{needs}
-use Rattle.eval_records.proofs.pair_at.Statement.{statement}
-use Rattle.eval_records.proofs.pair_at.Tie as tie
+use Rattle.sheet_forms.proofs.pair_at.Statement.{statement}
+use Rattle.sheet_forms.proofs.pair_at.Tie as tie
 
 returns : tie.Need-returns
-returns c = search needs
+returns c = search pair-is
 
 pub pair-at-spec : {M : Type 1} → statement M
 pair-at-spec =

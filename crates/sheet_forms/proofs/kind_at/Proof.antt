@@ -1,8 +1,8 @@
 -- laws: byte-out
-use Rattle.eval_records.proofs.Records.{byte-out}
+use Rattle.sheet_forms.proofs.Forms.{byte-out}
 use borrow.Author.Needs.{needs}
-use Rattle.eval_records.proofs.kind_at.Statement.{statement}
-use Rattle.eval_records.proofs.kind_at.Tie as tie
+use Rattle.sheet_forms.proofs.kind_at.Statement.{statement}
+use Rattle.sheet_forms.proofs.kind_at.Tie as tie
 
 pub kind-at-spec : {M : Type 1} → statement M
 kind-at-spec =
