@@ -33,6 +33,14 @@
  *         stop(dz_words(dz_number(min)), 0);
  *     show(dz_length_micrometres(min));
  *
+ * The limits of a plate, of a file that names its profile, come both at once and
+ * exactly, whatever the file's unit is, or are refused:
+ *
+ *     uint64_t limits = dz_sheet_profile(&sheet);
+ *     if (dz_number(limits) != DZ_OK)
+ *         stop(dz_words(dz_number(limits)), 0);
+ *     measure(dz_profile_minimum(limits), dz_profile_maximum(limits));
+ *
  * Any other value is a pointer to its record, of which the functions below give
  * the kind, the text, the number and the members:
  *
@@ -40,10 +48,11 @@
  *     if (name != NULL && dz_kind(name) == DZ_KIND_STRING)
  *         printf("%.*s\n", (int)dz_text_length(name), dz_text(&sheet, name));
  *
- * dz_resolve(), dz_check(), dz_look_up(), dz_length() and dz_version_number() are the
- * archive's, and are proved. All others are short C code here, inline; they are
- * symbols of the shared library libdzintrulo.so too, for languages that cannot
- * include this file. What is not in this header is no interface.
+ * dz_resolve(), dz_check(), dz_look_up(), dz_length(), dz_profile() and
+ * dz_version_number() are the archive's, and are proved. All others are short C
+ * code here, inline; they are symbols of the shared library libdzintrulo.so too,
+ * for languages that cannot include this file. What is not in this header is no
+ * interface.
  *
  *
  * What holds for every function here
@@ -63,10 +72,10 @@
  *     of threads may call at the same time, on the same bytes too, as long as
  *     nobody writes to bytes that are lent to a call.
  * Stack. Scratch memory is on the stack. dz_resolve() and dz_check() take at
- *     most DZ_STACK_MAX bytes of it, dz_look_up() and dz_length() at most
- *     DZ_LOOK_UP_STACK_MAX, and a thread's stack must have them free: threads of
- *     musl have 131,072 bytes unless more is asked for. This is measured, and not
- *     proved: the worst document found takes 505,688 bytes.
+ *     most DZ_STACK_MAX bytes of it, dz_look_up(), dz_length() and dz_profile() at
+ *     most DZ_LOOK_UP_STACK_MAX, and a thread's stack must have them free: threads
+ *     of musl have 131,072 bytes unless more is asked for. This is measured, and
+ *     not proved: the worst document found takes 505,688 bytes.
  * Needs. The archive needs memcpy and memset of the C library, and nothing
  *     else. It has no unwind tables: nothing can be thrown through it.
  */
@@ -121,8 +130,9 @@ DZ_INLINE const char *dz_version(void)
 #define DZ_PATH_ELEMENTS_MAX 16u  /* names in a path */
 #define DZ_NESTING_MAX 32u        /* arrays and objects in one another; the root counts */
 #define DZ_MICROMETRES_MAX 1000000u /* a length, in micrometres */
+#define DZ_PROFILE_LENGTH_MAX 25400000u /* a limit of a profile, in ten-thousandths of a millimetre */
 #define DZ_STACK_MAX 524288u      /* bytes of stack that dz_resolve() and dz_check() take at most */
-#define DZ_LOOK_UP_STACK_MAX 8192u /* the same of dz_look_up() and dz_length() */
+#define DZ_LOOK_UP_STACK_MAX 8192u /* the same of dz_look_up(), dz_length() and dz_profile() */
 
 /*
  * Refusal numbers
@@ -154,7 +164,12 @@ enum dz_number {
     DZ_BARE_NUMBER = 21,         /* a number without its unit */
     DZ_MINUS_SIGN = 22,          /* a length with a minus sign */
     DZ_NOT_WHOLE_MICROMETRES = 23, /* a length that is not whole micrometres */
-    DZ_TOO_LONG = 24             /* a length over DZ_MICROMETRES_MAX */
+    DZ_TOO_LONG = 24,            /* a length over DZ_MICROMETRES_MAX */
+    DZ_BAD_PROFILE = 39,         /* profile is not the number 1 or 2 */
+    DZ_BAD_UNIT = 40,            /* unit is not mm or in, or there in edition 2 */
+    DZ_BAD_MINIMUM = 41,         /* plate.min is no length of its edition */
+    DZ_BAD_MAXIMUM = 42,         /* plate.max is no length of its edition */
+    DZ_MINIMUM_ABOVE_MAXIMUM = 43 /* plate.min is above plate.max */
 };
 
 /* The refusal number of any job's answer; DZ_OK if it is no refusal. */
@@ -196,6 +211,11 @@ DZ_INLINE const char *dz_words(int number)
     case DZ_MINUS_SIGN: return "length below zero";
     case DZ_NOT_WHOLE_MICROMETRES: return "not whole micrometres";
     case DZ_TOO_LONG: return "length over 1 m";
+    case DZ_BAD_PROFILE: return "profile must be 1 or 2";
+    case DZ_BAD_UNIT: return "wrong unit for profile";
+    case DZ_BAD_MINIMUM: return "plate.min is no length";
+    case DZ_BAD_MAXIMUM: return "plate.max is no length";
+    case DZ_MINIMUM_ABOVE_MAXIMUM: return "plate.min above max";
     default: return "refused";
     }
 }
@@ -677,6 +697,84 @@ DZ_INLINE uint32_t dz_length_micrometres(uint64_t answer)
 }
 
 /*
+ * dz_profile - read the limits of a plate from a table, by the edition that it names
+ *
+ *   table, table_len   the records: one whole table, at most DZ_PART_MAX bytes
+ *   text, text_len     the text part that belongs to it, at most DZ_PART_MAX
+ *                      bytes
+ *
+ * Both are only read; see the top of this file for lengths of 0, overlap and
+ * threads.
+ *
+ * The settings are those that dz_look_up() finds by these paths, and no others are
+ * looked at:
+ *
+ *     path                      edition 1                  edition 2
+ *     profile                   the number 1               the number 2
+ *     unit                      the string "mm" or "in"    not there, null neither
+ *     plate.min, plate.max      numbers in digits only,    strings that are lengths
+ *                               0 to 100000: hundredths    with their unit, as
+ *                               of a millimetre, or by     dz_length() reads them
+ *                               "in" thousandths of an
+ *                               inch
+ *
+ * The rules of one edition are never tried on the other's file. Both limits are
+ * answered in ten-thousandths of a millimetre, exactly: a hundredth of a millimetre
+ * is 100, a thousandth of an inch 254, a micrometre 10.
+ *
+ * Returns the edition and both limits, or a refusal. Take it apart with the
+ * functions below; its bits are
+ *
+ *     bits         limits                   refused
+ *     0 to 5       0                        number
+ *     6 to 7       edition                  0
+ *     8 to 32      minimum                  0
+ *     33 to 57     maximum                  0
+ *     58 to 63     0                        0
+ *
+ * Refusals, in the order in which they are judged, all at place 0:
+ *
+ *      1 DZ_BAD_INPUT               The table or the text is over DZ_PART_MAX
+ *                                   bytes.
+ *     15 DZ_NOT_A_TABLE             The table is not one whole table over the
+ *                                   text.
+ *     39 DZ_BAD_PROFILE             profile is missing, or anything but the number
+ *                                   1 or 2 so written: "1" and 1.0 are not.
+ *     40 DZ_BAD_UNIT                Edition 1: unit is missing, or anything but the
+ *                                   string mm or in. Edition 2: there is one.
+ *     41 DZ_BAD_MINIMUM             plate.min is missing, or not as its edition
+ *                                   has it, whatever dz_length() says of it.
+ *     42 DZ_BAD_MAXIMUM             The same of plate.max.
+ *     43 DZ_MINIMUM_ABOVE_MAXIMUM   plate.min is above plate.max; they may be equal.
+ */
+uint64_t dz_profile(const uint8_t *table, size_t table_len,
+                    const uint8_t *text, size_t text_len);
+
+/* The refusal number of an answer of dz_profile(), or DZ_OK if it has limits. */
+DZ_INLINE int dz_profile_number(uint64_t answer)
+{
+    return dz_number(answer);
+}
+
+/* The edition, 1 or 2; 0 for a refusal. */
+DZ_INLINE int dz_profile_edition(uint64_t answer)
+{
+    return dz_number(answer) == DZ_OK ? DZ_CAST(int, answer >> 6 & 0x3) : 0;
+}
+
+/* plate.min in ten-thousandths of a millimetre; 0 for a refusal. */
+DZ_INLINE uint32_t dz_profile_minimum(uint64_t answer)
+{
+    return dz_number(answer) == DZ_OK ? DZ_CAST(uint32_t, answer >> 8 & 0x1ffffff) : 0;
+}
+
+/* plate.max in ten-thousandths of a millimetre; 0 for a refusal. */
+DZ_INLINE uint32_t dz_profile_maximum(uint64_t answer)
+{
+    return dz_number(answer) == DZ_OK ? DZ_CAST(uint32_t, answer >> 33 & 0x1ffffff) : 0;
+}
+
+/*
  * A sheet as one thing: where its parts lie. The bytes stay the caller's, and stay
  * as they are while the sheet and values of it are in use. dz_resolve_sheet() gives
  * one for what dz_resolve() has written, dz_sheet_open() in dzintrulo_sheet.h one for
@@ -731,6 +829,12 @@ DZ_INLINE uint64_t dz_find_length(const struct dz_sheet *sheet, const char *path
     if (!dz_look_up_found(answer))
         return answer;
     return dz_length(sheet->table + dz_look_up_offset(answer), dz_look_up_length(answer), sheet->text, sheet->text_length);
+}
+
+/* dz_profile() of a sheet. */
+DZ_INLINE uint64_t dz_sheet_profile(const struct dz_sheet *sheet)
+{
+    return dz_profile(sheet->table, sheet->table_length, sheet->text, sheet->text_length);
 }
 
 /*

@@ -1,10 +1,10 @@
 /*
- * A front panel in few lines: checks a sheet for its file and shows one thickness of it.
+ * A front panel in few lines: checks a sheet for its file and shows one thickness of it, or the limits of its profile.
  *
- *     panel FILE ENVFILE SHEET PATH
+ *     panel FILE ENVFILE SHEET [PATH]
  *
- * ENVFILE has lines NAME=TEXT, as the tool's --env-file; /dev/null has none. The panel shows what dz_find_length() reads
- * and nothing else: a number without its unit is never shown. All memory is static.
+ * ENVFILE has lines NAME=TEXT, as the tool's --env-file; /dev/null has none. The panel shows what dz_find_length() and
+ * dz_sheet_profile() read and nothing else: a number without its unit is never shown. All memory is static.
  */
 #include "dzintrulo.h"
 #include "dzintrulo_sheet.h"
@@ -137,6 +137,18 @@ static int show(const struct dz_sheet *sheet, const char *path)
     return 0;
 }
 
+/* Both limits in millimetres, to the ten-thousandth, as the library has them. */
+static int show_profile(const struct dz_sheet *sheet)
+{
+    uint64_t limits = dz_sheet_profile(sheet);
+    if (dz_number(limits) != DZ_OK)
+        return stop(dz_number(limits), 0, 0);
+    unsigned minimum = (unsigned)dz_profile_minimum(limits), maximum = (unsigned)dz_profile_maximum(limits);
+    printf("profile %d\n", dz_profile_edition(limits));
+    printf("plate.min %u.%04u mm\nplate.max %u.%04u mm\n", minimum / 10000, minimum % 10000, maximum / 10000, maximum % 10000);
+    return 0;
+}
+
 /* A display that takes nothing has shown nothing. */
 static int finish(int status)
 {
@@ -148,8 +160,8 @@ static int finish(int status)
 int main(int argc, char **argv)
 {
     struct dz_sheet sheet;
-    if (argc != 5) {
-        fputs("usage: panel FILE ENVFILE SHEET PATH\n", stderr);
+    if (argc != 4 && argc != 5) {
+        fputs("usage: panel FILE ENVFILE SHEET [PATH]\n", stderr);
         return 2;
     }
     if (dz_version_number() != DZINTRULO_VERSION_NUMBER)
@@ -160,5 +172,7 @@ int main(int argc, char **argv)
         return finish(stop(DZ_NOT_ACCEPTED, 0, 0));
     uint64_t answer = dz_check(document, document_length, environment, environment_length, sheet.trail, sheet.trail_length,
                                sheet.table, sheet.table_length, sheet.text, sheet.text_length);
-    return finish(dz_check_accepted(answer) ? show(&sheet, argv[4]) : stop_check(answer));
+    if (!dz_check_accepted(answer))
+        return finish(stop_check(answer));
+    return finish(argc == 4 ? show_profile(&sheet) : show(&sheet, argv[4]));
 }

@@ -50,6 +50,18 @@ static const struct entry {
      "Write it to the micrometre: mm with at most three decimals, um with none."},
     {DZ_TOO_LONG, "The length is over 1,000,000 micrometres, which is one metre.", "plate.min = 1500 mm",
      "Look at the unit."},
+    {DZ_BAD_PROFILE, "`profile` is missing, or not the number 1 or 2, written so: not in quotes, not as 1.0.", "profile = \"1\"",
+     "Write profile = 1 for lengths in numbers, by `unit`, or profile = 2 for lengths with their own unit."},
+    {DZ_BAD_UNIT, "Profile 1 has `unit`, which is mm or in. Profile 2 has no `unit`, null neither.", "profile = 1\n    unit = um",
+     "Write unit = mm for hundredths of a millimetre or unit = in for thousandths of an inch, or take it out of profile 2."},
+    {DZ_BAD_MINIMUM, "`plate.min` is missing, or no length of its profile: in profile 1 a number of 0 to 100000 in digits only,\n"
+                     "in profile 2 a number and mm, um or in.",
+     "profile = 1\n    unit = mm\n    plate.min = 1.02", "Write 102 in profile 1, by unit = mm, or 1.02 mm in profile 2."},
+    {DZ_BAD_MAXIMUM, "`plate.max` is missing, or no length of its profile: in profile 1 a number of 0 to 100000 in digits only,\n"
+                     "in profile 2 a number and mm, um or in.",
+     "profile = 2\n    plate.min = 1 mm\n    plate.max = 2", "Write 200 in profile 1, by unit = mm, or 2 mm in profile 2."},
+    {DZ_MINIMUM_ABOVE_MAXIMUM, "`plate.min` is above `plate.max`. They may be equal.", "profile = 2\n    plate.min = 1 in\n    plate.max = 20 mm",
+     "Exchange them, or look at their units."},
 };
 
 static enum status explain_all(void)
@@ -72,5 +84,5 @@ enum status explain(const struct args *args)
                    entries[i].example, entries[i].mend);
             return DONE;
         }
-    return usage_error("explain needs one number of a refusal: 1 to 17, or 20 to 24");
+    return usage_error("explain needs one number of a refusal: 1 to 17, 20 to 24, or 39 to 43");
 }

@@ -63,11 +63,7 @@ enum status run_get(const struct args *args)
         return usage_error("get needs FILE or SHEET");
     if (args->micrometres && args->operand_count < 2)
         return usage_error("--um needs a PATH");
-    if (!start_job(args, args->operands[0], &source.job))
-        return TROUBLE;
-    if (source.job.document.is_sheet && args->for_file == NULL && !names_have_use(args, &source.job.document))
-        return TROUBLE;
-    enum status status = open_source(args, &source);
+    enum status status = open_first(args, &source);
     if (status != DONE)
         return status;
     return args->operand_count == 1 ? print_all(args, &source) : print_paths(args, &source);

@@ -6,8 +6,8 @@
 #define COLUMN 30 /* where the words begin */
 #define NEXT_LINE "\n                              "
 
-enum { RESOLVE = 1, CHECK = 2, GET = 4, DIFF = 8, TRAIL = 16, DUMP = 32, EXPLAIN = 64, HELP_COMMAND = 128, ALL = 255 };
-enum { WITH_NAMES = RESOLVE | CHECK | GET | DIFF | TRAIL };
+enum { RESOLVE = 1, CHECK = 2, GET = 4, DIFF = 8, TRAIL = 16, DUMP = 32, EXPLAIN = 64, HELP_COMMAND = 128, PROFILE = 256, ALL = 511 };
+enum { WITH_NAMES = RESOLVE | CHECK | GET | DIFF | PROFILE | TRAIL };
 
 /* A command has a row for each of its forms. */
 static const struct command commands[] = {
@@ -17,6 +17,7 @@ static const struct command commands[] = {
     {"get", GET, run_get, "FILE|SHEET PATH..", "print settings: all that are named, or none"},
     {"get", GET, run_get, "FILE|SHEET", "print all settings as JSON"},
     {"diff", DIFF, run_diff, "FILE|SHEET FILE|SHEET", "settings added (+), removed (-) or changed (~)"},
+    {"profile", PROFILE, run_profile, "FILE|SHEET", "the limits of a plate, as the device takes them"},
     {"trail", TRAIL, run_trail, "FILE", "each ${..} value in the order of working out"},
     {"trail", TRAIL, run_trail, "--for FILE SHEET", "the same of a sheet, checked for FILE"},
     {"dump", DUMP, run_dump, "SHEET", "the bytes of a sheet file, record by record"},
@@ -33,7 +34,7 @@ const struct option options[] = {
     {VERBOSE, 'v', "verbose", CHECK, NULL, "say that the file is good, the sheet accepted"},
     {MICROMETRES, 0, "um", GET, NULL, "lengths such as 2.6 mm, in whole micrometres"},
     {OUTPUT, 'o', "output", RESOLVE, "SHEET", "write a sheet file; - is standard output"},
-    {FOR, 0, "for", GET | TRAIL, "FILE", "check the sheet for FILE first"},
+    {FOR, 0, "for", GET | PROFILE | TRAIL, "FILE", "check the sheet for FILE first"},
     {BUDGET, 0, "budget", RESOLVE, "N", "how many ${..} values may be worked out, 0 to 256"},
     {NAME, 'e', "env", WITH_NAMES, "NAME=TEXT", "a text for a name that the file does not set"},
     {NAME, 'e', "env", WITH_NAMES, "NAME", "NAME as it is in the process environment"},

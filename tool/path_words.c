@@ -147,7 +147,8 @@ enum status refuse_path(const char *name, const struct dz_sheet *sheet, const ch
 
 /* ---- 20 to 24. */
 
-static const char *length_words(int number)
+/* Why a value is no length, to go on behind it. */
+const char *length_words(int number)
 {
     switch (number) {
     case DZ_BARE_NUMBER: return ", a number without its unit";

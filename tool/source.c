@@ -34,6 +34,16 @@ enum status open_source(const struct args *args, struct source *source)
     return is_sheet ? open_checked(args, source) : open_document(source);
 }
 
+/* Reads and opens the file or sheet that a call is about. */
+enum status open_first(const struct args *args, struct source *source)
+{
+    if (!start_job(args, args->operands[0], &source->job))
+        return TROUBLE;
+    if (source->job.document.is_sheet && args->for_file == NULL && !names_have_use(args, &source->job.document))
+        return TROUBLE;
+    return open_source(args, source);
+}
+
 /* Names that are given have a use, or are refused: a sheet that is read as it is has its settings already. */
 bool names_have_use(const struct args *args, const struct input *sheet)
 {

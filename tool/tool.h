@@ -201,6 +201,7 @@ enum status refuse(const struct job *job, uint64_t answer);
 enum status refuse_check(const struct job *job, const struct input *input, const struct dz_sheet *sheet, uint64_t answer);
 enum status refuse_path(const char *name, const struct dz_sheet *sheet, const char *path, uint64_t answer);
 enum status refuse_length(const char *name, const char *path, const uint8_t *value, const struct dz_sheet *sheet, int number);
+const char *length_words(int number);
 void choose_words(struct message *message, const struct job *job, int number);
 struct view { /* a value of a whole table */
     const uint8_t *value, *text;
@@ -262,6 +263,7 @@ struct source {
     struct dz_sheet sheet;
 };
 enum status open_source(const struct args *args, struct source *source);
+enum status open_first(const struct args *args, struct source *source);
 bool names_have_use(const struct args *args, const struct input *sheet);
 uint64_t look_up(const struct source *source, const char *path);
 enum status try_table(const struct source *source);
@@ -272,6 +274,7 @@ enum status run_resolve(const struct args *args);
 enum status run_check(const struct args *args);
 enum status run_get(const struct args *args);
 enum status run_diff(const struct args *args);
+enum status run_profile(const struct args *args);
 enum status run_trail(const struct args *args);
 enum status run_dump(const struct args *args);
 enum status run_help(const struct args *args);

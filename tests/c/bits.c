@@ -44,6 +44,10 @@ TAKEN(dz_look_up_length)
 TAKEN(dz_look_up_place)
 TAKEN(dz_length_number)
 TAKEN(dz_length_micrometres)
+TAKEN(dz_profile_number)
+TAKEN(dz_profile_edition)
+TAKEN(dz_profile_minimum)
+TAKEN(dz_profile_maximum)
 
 /* The kinds of answers. Where something is done or found the number is 0. */
 static const struct value resolved[] = {{"count", RESOLVE_COUNT, COUNT_ROOM, take_dz_resolve_count},
@@ -53,12 +57,16 @@ static const struct value resolved[] = {{"count", RESOLVE_COUNT, COUNT_ROOM, tak
 static const struct value found[] = {{"offset", LOOK_UP_START, START_ROOM, take_dz_look_up_offset},
                                      {"length", LOOK_UP_SIZE, SIZE_ROOM, take_dz_look_up_length}};
 static const struct value length[] = {{"micrometres", LENGTH_MICROMETRES, MICROMETRES_ROOM, take_dz_length_micrometres}};
+static const struct value profile[] = {{"edition", PROFILE_EDITION, EDITION_ROOM, take_dz_profile_edition},
+                                       {"minimum", PROFILE_MINIMUM, MINIMUM_ROOM, take_dz_profile_minimum},
+                                       {"maximum", PROFILE_MAXIMUM, MAXIMUM_ROOM, take_dz_profile_maximum}};
 static const struct value refused[] = {{"number", 1, NUMBER_ROOM, take_dz_number}, {"place", RESOLVE_PLACE, PLACE_ROOM, take_dz_place}};
 static const struct value look_up_refused[] = {{"number of look-up", 1, NUMBER_ROOM, take_dz_look_up_number},
                                                {"place of look-up", LOOK_UP_PLACE, PLACE_ROOM, take_dz_look_up_place}};
 static const struct value check_refused[] = {{"number of check", 1, NUMBER_ROOM, take_dz_number},
                                              {"place of check", CHECK_PLACE, PLACE_ROOM, take_dz_place}};
 static const struct value length_refused[] = {{"number of length", 1, NUMBER_ROOM, take_dz_length_number}};
+static const struct value profile_refused[] = {{"number of profile", 1, NUMBER_ROOM, take_dz_profile_number}};
 
 /*
  * Every value, with nothing beside it and with every other bit set, those too that are kept for later: from 0 to its
@@ -92,6 +100,8 @@ static void hold_others(void)
     hold(dz_look_up_offset(refusal) == 0 && dz_look_up_length(refusal) == 0, "a refused look-up has no value");
     hold(!dz_look_up_found(refusal) && dz_look_up_found(done), "what is found");
     hold(dz_length_micrometres(refusal) == 0 && !dz_check_accepted(refusal), "a refused length has no micrometres");
+    hold(dz_profile_edition(refusal) == 0 && dz_profile_minimum(refusal) == 0 && dz_profile_maximum(refusal) == 0,
+         "a refused profile has no limits");
     hold(dz_place(done) == 0 && dz_look_up_place(done) == 0 && dz_check_accepted(done), "what is done has no place");
 }
 
@@ -126,10 +136,12 @@ int main(void)
     HOLD(resolved, false);
     HOLD(found, false);
     HOLD(length, false);
+    HOLD(profile, false);
     HOLD(refused, true);
     HOLD(look_up_refused, true);
     HOLD(check_refused, true);
     HOLD(length_refused, true);
+    HOLD(profile_refused, true);
     hold_others();
     hold_records();
     at_the_limit();

@@ -51,6 +51,12 @@ static void *do_length(void *unused)
     return unused;
 }
 
+static void *do_profile(void *unused)
+{
+    dz_profile(table, dz_resolve_table_length(answer), text, dz_resolve_text_length(answer));
+    return unused;
+}
+
 /* How many bytes of its stack a thread leaves changed that runs this. */
 static size_t stack_of(void *(*job)(void *))
 {
@@ -163,6 +169,16 @@ static void many_items(void)
     add("]");
 }
 
+/* A profile behind objects that are as deep as they can be. */
+static void profile(void)
+{
+    add("profile=2,plate{");
+    add_times(30, "a{");
+    add("a=1");
+    add_times(30, "}");
+    add(",min=0.1 in,max=1000 mm}");
+}
+
 /* The worst document found. */
 static void worst(void)
 {
@@ -180,20 +196,20 @@ static void most(size_t *so_far, void *(*job)(void *), size_t idle)
 
 int main(void)
 {
-    static const char *const names[] = {"resolve", "check", "look_up", "length"};
-    static void *(*const jobs[])(void *) = {do_resolve, do_check, do_look_up, do_length};
-    static void (*const documents[])(void) = {nested_arrays, nested_objects, chain,      needs_inside,
-                                              merged_pieces, looking_back,   many_items, worst};
-    size_t taken[4] = {0, 0, 0, 0}, idle = stack_of(do_nothing);
+    static const char *const names[] = {"resolve", "check", "look_up", "length", "profile"};
+    static void *(*const jobs[])(void *) = {do_resolve, do_check, do_look_up, do_length, do_profile};
+    static void (*const documents[])(void) = {nested_arrays, nested_objects, chain,      needs_inside, merged_pieces,
+                                              looking_back,  many_items,     profile, worst};
+    size_t taken[5] = {0, 0, 0, 0, 0}, idle = stack_of(do_nothing);
     bool fits = true;
     for (size_t i = 0; i < sizeof documents / sizeof documents[0]; i++) {
         document_len = 0;
         documents[i]();
-        for (int job = 0; job < 4; job++)
+        for (int job = 0; job < 5; job++)
             most(&taken[job], jobs[job], idle);
         printf("document %zu: %zu bytes, number %d, %zu values\n", i, document_len, dz_number(answer), dz_resolve_count(answer));
     }
-    for (int job = 0; job < 4; job++) {
+    for (int job = 0; job < 5; job++) {
         fprintf(stderr, "stack: dz_%s takes %zu bytes\n", names[job], taken[job]);
         fits = fits && taken[job] <= (job < 2 ? DZ_STACK_MAX - MARGIN : DZ_LOOK_UP_STACK_MAX - LOOK_UP_MARGIN);
     }

@@ -48,10 +48,16 @@ FUNCTIONS = {
     "dz_length": (ANSWER, LENT * 2),
     "dz_length_number": (c_int, [ANSWER]),
     "dz_length_micrometres": (c_uint32, [ANSWER]),
+    "dz_profile": (ANSWER, LENT * 2),
+    "dz_profile_number": (c_int, [ANSWER]),
+    "dz_profile_edition": (c_int, [ANSWER]),
+    "dz_profile_minimum": (c_uint32, [ANSWER]),
+    "dz_profile_maximum": (c_uint32, [ANSWER]),
     "dz_resolve_sheet": (Sheet, [ANSWER, BYTES, BYTES, BYTES]),
     "dz_sheet_look_up": (ANSWER, [SHEET, c_char_p]),
     "dz_find": (RECORD, [SHEET, c_char_p]),
     "dz_find_length": (ANSWER, [SHEET, c_char_p]),
+    "dz_sheet_profile": (ANSWER, [SHEET]),
     "dz_root": (RECORD, [SHEET]),
     "dz_text": (c_void_p, [SHEET, RECORD]),
     "dz_text_equals": (c_bool, [SHEET, RECORD, c_char_p]),
@@ -127,7 +133,7 @@ def main():
     names = set().union(*map(functions_of, sys.argv[2:]))
     hold(names, set(FUNCTIONS), "the functions of the headers")
     hold((dz.dz_version_number(), dz.dz_version()), version_of(sys.argv[2:]), "the version")
-    document = b"unit=mm,plate{min=2.6 ${unit},n=-17,big=9223372036854775808},list=[true,${?x}1]"
+    document = b"profile=2,mm=mm,plate{min=2.6 ${mm},max=3 mm,n=-17,big=9223372036854775808},list=[true,${?x}1]"
     parts = [(c_uint8 * 32768)() for _ in range(3)]
     lent = [(bytes(document), len(document)), (None, 0)]
 
@@ -146,7 +152,8 @@ def main():
 
     at, root = byref(sheet), dz.dz_root(byref(sheet))
     hold(root, sheet.table, "the root")
-    hold(texts(dz, at, root), [("unit", "mm"), ("plate", [("min", "2.6 mm"), ("n", "-17"), ("big", "9223372036854775808")]),
+    hold(texts(dz, at, root), [("profile", "2"), ("mm", "mm"),
+                               ("plate", [("min", "2.6 mm"), ("max", "3 mm"), ("n", "-17"), ("big", "9223372036854775808")]),
                                ("list", [3, "1"])], "all settings")
     found = dz.dz_look_up(*flat(sheet_parts[1:]), b"plate.min", 9)
     hold(dz.dz_sheet_look_up(at, b"plate.min"), found, "look-up")
@@ -160,8 +167,12 @@ def main():
     length = dz.dz_find_length(at, b"plate.min")
     hold((dz.dz_length_number(length), dz.dz_length_micrometres(length)), (0, 2600), "a length")
     hold(dz.dz_length(value, 5, *sheet_parts[2]), length, "the same length")
+    profile = dz.dz_sheet_profile(at)
+    hold((dz.dz_profile_number(profile), dz.dz_profile_edition(profile)), (0, 2), "a profile")
+    hold((dz.dz_profile_minimum(profile), dz.dz_profile_maximum(profile)), (26000, 30000), "its limits")
+    hold(dz.dz_profile(*flat(sheet_parts[1:])), profile, "the same profile")
     number = c_int64(7)
-    hold([dz.dz_integer(at, dz.dz_find(at, path), byref(number)) for path in (b"unit", b"plate.big", b"none")], [1, 2, 1], "no integer")
+    hold([dz.dz_integer(at, dz.dz_find(at, path), byref(number)) for path in (b"mm", b"plate.big", b"none")], [1, 2, 1], "no integer")
     hold((number.value, dz.dz_integer(at, dz.dz_find(at, b"plate.n"), byref(number)), number.value), (7, 0, -17), "an integer")
 
     head = (c_uint8 * 12)()

@@ -8,7 +8,7 @@ _dzintrulo_options() {
     check) echo "-v --verbose $names $all" ;;
     get) echo "-a --ascii -c --compact -r --raw --um --for $names $all" ;;
     diff) echo "-a --ascii -c --compact $names $all" ;;
-    trail) echo "--for $names $all" ;;
+    profile | trail) echo "--for $names $all" ;;
     dump | explain | help) echo "$all" ;;
     esac
 }
@@ -51,7 +51,7 @@ _dzintrulo_operands() {
 
 _dzintrulo() {
     local word=${COMP_WORDS[COMP_CWORD]} before=${COMP_WORDS[COMP_CWORD - 1]} command=${COMP_WORDS[1]} ended='' offered=''
-    local commands='resolve check get diff trail dump explain help' operands=()
+    local commands='resolve check get diff profile trail dump explain help' operands=()
     COMPREPLY=()
     if [[ $COMP_CWORD -eq 1 ]]; then
         mapfile -t COMPREPLY < <(compgen -W "$commands -h --help --version" -- "$word")
@@ -69,7 +69,7 @@ _dzintrulo() {
     elif [[ $command == help ]]; then
         offered=$commands
     elif [[ $command == explain ]]; then
-        offered='1 2 3 4 5 6 7 8 9 10 11 12 13 14 15 16 17 20 21 22 23 24'
+        offered='1 2 3 4 5 6 7 8 9 10 11 12 13 14 15 16 17 20 21 22 23 24 39 40 41 42 43'
     elif [[ $command == get && ${#operands[@]} -gt 0 ]]; then
         offered=$(_dzintrulo_settings "${operands[0]}")
     else

@@ -44,3 +44,13 @@ pub const MINUS_SIGN: u8 = 22;
 pub const NOT_WHOLE_MICROMETRES: u8 = 23;
 /// A length over 1,000,000 micrometres.
 pub const TOO_LONG: u8 = 24;
+/// `profile` is missing, or not the number 1 or 2.
+pub const BAD_PROFILE: u8 = 39;
+/// `unit` is missing or another in edition 1, or there in edition 2.
+pub const BAD_UNIT: u8 = 40;
+/// `plate.min` is missing, or no length of its edition.
+pub const BAD_MINIMUM: u8 = 41;
+/// `plate.max` is missing, or no length of its edition.
+pub const BAD_MAXIMUM: u8 = 42;
+/// `plate.min` is above `plate.max`.
+pub const MINIMUM_ABOVE_MAXIMUM: u8 = 43;

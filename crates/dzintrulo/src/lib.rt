@@ -1,11 +1,13 @@
 // The jobs on lent byte slices, exported to C, and the version of the interface to them.
-// Computes: Jobs (resolveJob, buffersOf, checkJob, lookUpJob, lengthJob)
+// Computes: Jobs (resolveJob, buffersOf, checkJob, lookUpJob, lengthJob), Profile (profileJob)
 ghost use mathlib.Core.Path.{_≡_};
 ghost use Rattle.rules.specs.Jobs.{checkJob, lookUpJob, lengthJob};
 ghost use Rattle.job_resolved.specs.Answers.{packedVerdict};
 ghost use Rattle.job_answers.specs.Answers.{packed};
 ghost use Rattle.dzintrulo.specs.ResolveJob.{PackedResolveIs};
 ghost use Rattle.job_length.specs.Packed.{packedLength};
+ghost use Rattle.rules_profile.specs.Profile.{profileJob};
+ghost use Rattle.job_profile.specs.Packed.{packedProfile};
 
 /// Resolve for C.
 #[no_mangle]
@@ -53,6 +55,14 @@ pub extern "C" fn dz_length(table: &[u8], text: &[u8]) -> u64
     ensures { λ r. ⌜ r ≡ packedLength (lengthJob (now (table .entry)) (now (text .entry))) ⌝ }
 {
     job_length::pack_length(job_length::length(table, text))
+}
+
+/// The profile of a table for C.
+#[no_mangle]
+pub extern "C" fn dz_profile(table: &[u8], text: &[u8]) -> u64
+    ensures { λ r. ⌜ r ≡ packedProfile (profileJob (now (table .entry)) (now (text .entry))) ⌝ }
+{
+    job_profile::pack_profile(job_profile::profile(table, text))
 }
 
 /// The version of this interface, 0.1.0, as the header has it: 10,000 * major + 100 * minor + patch.

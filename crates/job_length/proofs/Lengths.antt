@@ -19,7 +19,7 @@ use Rattle.theory.specs.Micrometres.{length-long, length-not-whole, length-whol
 use Rattle.text_chars.specs.Cursor.{ByteIs}
 use Rattle.text_chars.specs.Parts.{part-slice}
 use Rattle.sheet_kinds.specs.Contracts.{PairIs}
-use Rattle.text_micrometres.specs.Contracts.{measuredOf}
+use Rattle.text_micrometres.specs.Contracts.{measuredOf, MeasuredIs}
 use Rattle.text_micrometres.specs.declared.Measured.{Measured}
 use Rattle.job_length.specs.Contracts.{WholeTable}
 use Rattle.job_length.specs.Packed.{packedLength}
@@ -51,7 +51,7 @@ module _ (table text : List ℕ) {kind : ℕ} (b : ByteIs table 0 kind) where
             other true e = absurd (omega arith)
             other false e = absurd (omega arith)
 
-    pub record-text : (r : Measured) → measuredOf r ≡ lengthOf (eqb kind 5) (take (from + size - from) (drop from text))
+    pub record-text : (r : Measured) → MeasuredIs (lengthOf (eqb kind 5) (take (from + size - from) (drop from text))) r
         → measuredOf r ≡ recordLength table text
     unfolding recordLength textAt
     record-text r e =
@@ -59,7 +59,7 @@ module _ (table text : List ℕ) {kind : ℕ} (b : ByteIs table 0 kind) where
         let written : slice from (from + size) text ≡ textAt table text 0 = rw (f .is, n .is, textAt) in
         let job : recordLength table text ≡ lengthOf (eqb kind 5) (textAt table text 0) =
         rw (recordLength, ← b .is, le-leb 4 kind low, le-leb kind 5 high) (rw (b .is)) in
-        e ∙ ap (λ (l : Text). lengthOf (eqb kind 5) l) (part ∙ written) ∙ sym job
+        e .is ∙ ap (λ (l : Text). lengthOf (eqb kind 5) l) (part ∙ written) ∙ sym job
 
 pub part-short : (text : List ℕ) (from to : ℕ) → length text ≤ maxRoom → length (take (to - from) (drop from text)) ≤ maxRoom
 part-short text from to h = omega (arith, length-take (to - from) (drop from text), length-drop from text)

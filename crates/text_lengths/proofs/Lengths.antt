@@ -19,7 +19,7 @@ use Rattle.text_decimals.specs.Contracts.{decimalIn, DecimalIs, unitAs, UnitIs}
 use Rattle.text_decimals.specs.declared.Decimal.{Decimal}
 use Rattle.text_decimals.specs.declared.Start.{Start}
 use Rattle.text_decimals.specs.declared.UnitRead.{UnitRead}
-use Rattle.text_micrometres.specs.Contracts.{measuredOf}
+use Rattle.text_micrometres.specs.Contracts.{MeasuredIs}
 use Rattle.text_micrometres.specs.declared.Measured.{Measured}
 
 -- ---- behind the number
@@ -36,14 +36,14 @@ pub unit-short : {o : Option ℕ} {u : UnitRead} {n : ℕ} → UnitIs o u → u 
 unit-short h e = rw e at (h .short)
 
 module _ (s : List ℕ) (string : Bool) (d : Decimal) where
-  pub rest-bare : d .end .0 ≡ length s → measuredOf (Measured.Refused 21) ≡ withRest string s (decimalIn s d)
+  pub rest-bare : d .end .0 ≡ length s → MeasuredIs (withRest string s (decimalIn s d)) (Measured.Refused 21)
   unfolding withRest noLength
-  rest-bare e = rw (eq-eqb (d .end .0) (length s) e, withRest)
+  rest-bare e = record { is = rw (eq-eqb (d .end .0) (length s) e, withRest); numbered = omega arith }
 
   module _ (more : d .end .0 ≡ length s → ⊥) where
-    pub rest-number : string ≡ false → measuredOf (Measured.Refused 20) ≡ withRest string s (decimalIn s d)
+    pub rest-number : string ≡ false → MeasuredIs (withRest string s (decimalIn s d)) (Measured.Refused 20)
     unfolding withRest noLength
-    rest-number f = rw (ne-eqb (d .end .0) (length s) more, f, withRest)
+    rest-number f = record { is = rw (ne-eqb (d .end .0) (length s) more, f, withRest); numbered = omega arith }
 
     module _ (f : string ≡ true) {c : Cursor} (k : EndIs s (d .end .0) (afterSpace s (d .end .0)) c) {u : UnitRead}
         (h : UnitIs (unitAt s (c .at .0)) u) where
@@ -53,22 +53,22 @@ module _ (s : List ℕ) (string : Bool) (d : Decimal) where
           let z : unitAt s (afterSpace s (d .end .0)) ≡ o = ap (unitAt s) (sym (k .is)) ∙ e in
           rw (ne-eqb (d .end .0) (length s) more, f, z, withRest)
 
-      pub rest-missing : u ≡ UnitRead.Missing → measuredOf (Measured.Refused 20) ≡ withRest string s (decimalIn s d)
+      pub rest-missing : u ≡ UnitRead.Missing → MeasuredIs (withRest string s (decimalIn s d)) (Measured.Refused 20)
       unfolding withUnit noLength
-      rest-missing e = sym (with-unit none (unit-none _ (sym e ∙ h .is)))
+      rest-missing e = record { is = sym (with-unit none (unit-none _ (sym e ∙ h .is))); numbered = omega arith }
 
       module _ {unit : ℕ} (e : u ≡ UnitRead.Micrometres unit) where
         has-unit : withRest string s (decimalIn s d) ≡ withUnit (decimalIn s d) (some unit)
         has-unit = with-unit (some unit) (unit-some _ unit (sym e ∙ h .is))
 
-        pub rest-minus : d .minus ≡ true → measuredOf (Measured.Refused 22) ≡ withRest string s (decimalIn s d)
+        pub rest-minus : d .minus ≡ true → MeasuredIs (withRest string s (decimalIn s d)) (Measured.Refused 22)
         unfolding withUnit noLength
-        rest-minus m = sym (has-unit ∙ rw (m, withUnit))
+        rest-minus m = record { is = sym (has-unit ∙ rw (m, withUnit)); numbered = omega arith }
 
-        pub rest-length : (r : Measured) → d .minus ≡ false → measuredOf r ≡ inMicrometres unit (decimalIn s d)
-            → measuredOf r ≡ withRest string s (decimalIn s d)
+        pub rest-length : (r : Measured) → d .minus ≡ false → MeasuredIs (inMicrometres unit (decimalIn s d)) r
+            → MeasuredIs (withRest string s (decimalIn s d)) r
         unfolding withUnit
-        rest-length r m i = i ∙ sym (has-unit ∙ rw (m, withUnit))
+        rest-length r m i = record { is = i .is ∙ sym (has-unit ∙ rw (m, withUnit)); numbered = i .numbered }
 
 pub ruleset unit-needs = (arith, unit-short)
 
@@ -85,22 +85,23 @@ ill-none none e = refl
 ill-none (some p) e = clash (cc)
 
 module _ (s : List ℕ) (string : Bool) {i : Ill} (g : i ≡ illAt (illFormed s)) where
-  pub length-ill : {place : DocAt} → i ≡ Ill.At place → measuredOf (Measured.Refused 20) ≡ lengthOf string s
+  pub length-ill : {place : DocAt} → i ≡ Ill.At place → MeasuredIs (lengthOf string s) (Measured.Refused 20)
   unfolding lengthOf noLength
-  length-ill {place} e = let (p, z) = ill-some (illFormed s) place (sym e ∙ g) in rw (z, lengthOf)
+  length-ill {place} e = let (p, z) = ill-some (illFormed s) place (sym e ∙ g) in record { is = rw (z, lengthOf); numbered = omega arith }
 
   module _ (w : i ≡ Ill.Nowhere) {r : Start} (k : DecimalIs s r) where
     well : illFormed s ≡ none
     well = ill-none (illFormed s) (sym w ∙ g)
 
-    pub length-other : r ≡ Start.Other → measuredOf (Measured.Refused 20) ≡ lengthOf string s
+    pub length-other : r ≡ Start.Other → MeasuredIs (lengthOf string s) (Measured.Refused 20)
     unfolding lengthOf noLength
-    length-other e = let z : none ≡ decimalOf s = rw e at (k .is) in rw (well, sym z, lengthOf)
+    length-other e = let z : none ≡ decimalOf s = rw e at (k .is) in record { is = rw (well, sym z, lengthOf); numbered = omega arith }
 
-    pub length-number : {d : Decimal} (m : Measured) → r ≡ Start.Number d → measuredOf m ≡ withRest string s (decimalIn s d)
-        → measuredOf m ≡ lengthOf string s
+    pub length-number : {d : Decimal} (m : Measured) → r ≡ Start.Number d → MeasuredIs (withRest string s (decimalIn s d)) m
+        → MeasuredIs (lengthOf string s) m
     unfolding lengthOf
-    length-number {d} m e h = let z : some (decimalIn s d) ≡ decimalOf s = rw e at (k .is) in h ∙ sym (rw (well, sym z, lengthOf))
+    length-number {d} m e h = let z : some (decimalIn s d) ≡ decimalOf s = rw e at (k .is) in
+        record { is = h .is ∙ sym (rw (well, sym z, lengthOf)); numbered = h .numbered }
 
 pub placed-order : {s : List ℕ} {r : Start} {d : Decimal} → DecimalIs s r → r ≡ Start.Number d → d .point .0 ≤ d .end .0
 placed-order k e = let p = rw e at (k .placed) in p .0

@@ -7,18 +7,17 @@ use text_decimals::Decimal;
 use text_decimals::Start;
 use text_decimals::UnitRead;
 use text_micrometres::Measured;
-ghost use mathlib.Core.Path.{_≡_};
 ghost use Prim.Native.Nat.{_≤_};
 ghost use lib.ListN.{length};
 ghost use Rattle.rules.specs.Sizes.{maxDocument};
 ghost use Rattle.rules.specs.Micrometres.{withRest, lengthOf};
 ghost use Rattle.text_decimals.specs.Contracts.{decimalIn};
-ghost use Rattle.text_micrometres.specs.Contracts.{measuredOf};
+ghost use Rattle.text_micrometres.specs.Contracts.{MeasuredIs};
 
 // The length of the number with which a text begins, by what stands behind it.
 fn with_rest(s: &[u8], string: bool, d: Decimal) -> Measured
     requires { ⌜ (length (now s) ≤ maxDocument) × (d .point .0 ≤ d .end .0) × (d .end .0 ≤ length (now s)) ⌝ }
-    ensures { λ r. ⌜ measuredOf r ≡ withRest string (now (s .entry)) (decimalIn (now (s .entry)) d) ⌝ }
+    ensures { λ r. ⌜ MeasuredIs (withRest string (now (s .entry)) (decimalIn (now (s .entry)) d)) r ⌝ }
 {
     let end = d.end;
     if end.0 == s.len() {
@@ -50,7 +49,7 @@ fn with_rest(s: &[u8], string: bool, d: Decimal) -> Measured
 /// The length that a text writes, of a string or of a number.
 pub fn length_of(s: &[u8], string: bool) -> Measured
     requires { ⌜ length (now s) ≤ maxDocument ⌝ }
-    ensures { λ r. ⌜ measuredOf r ≡ lengthOf string (now (s .entry)) ⌝ }
+    ensures { λ r. ⌜ MeasuredIs (lengthOf string (now (s .entry))) r ⌝ }
 {
     match text_chars::ill_formed(s) {
         Ill::At(place) => Measured::Refused {

@@ -17,7 +17,7 @@ use Rattle.text_chars.specs.Cursor.{ByteIs}
 use Rattle.text_chars.specs.Clash.{clash}
 use Rattle.text_decimals.specs.Contracts.{decimalIn}
 use Rattle.text_decimals.specs.declared.Decimal.{Decimal}
-use Rattle.text_micrometres.specs.Contracts.{tooMany, DigitsTo, WholeIs, tenth, fractionC, fractionAs, maxFraction, FractionIs, measuredOf}
+use Rattle.text_micrometres.specs.Contracts.{tooMany, DigitsTo, WholeIs, tenth, fractionC, fractionAs, maxFraction, FractionIs, MeasuredIs}
 use Rattle.text_micrometres.specs.Exact.{tenth-whole, tenth-broken, not-whole, too-long, fine, summed, summed-step}
 use Rattle.text_micrometres.specs.declared.Fraction.{Fraction}
 use Rattle.text_micrometres.specs.declared.Measured.{Measured}
@@ -190,21 +190,21 @@ pub in-fits : {s : List ℕ} {unit from to first point rest w : ℕ} {f : Fracti
 in-fits {rest = rest} k e h = let l : rest ≤ maxFraction = rw e at (k .small) in omega (arith, h .is)
 
 module _ {s : List ℕ} {unit : ℕ} (d : Decimal) {f : Fraction} (k : FractionIs s (d .point .0 + 1) (d .end .0) unit f) where
-  pub in-broken : f ≡ Fraction.Broken → measuredOf (Measured.Refused 23) ≡ inMicrometres unit (decimalIn s d)
+  pub in-broken : f ≡ Fraction.Broken → MeasuredIs (inMicrometres unit (decimalIn s d)) (Measured.Refused 23)
   unfolding noLength
-  in-broken e = not-whole unit (decimalIn s d) (fraction-none _ (sym e ∙ k .is))
+  in-broken e = record { is = not-whole unit (decimalIn s d) (fraction-none _ (sym e ∙ k .is)); numbered = omega arith }
 
   module _ {rest : ℕ} (e : f ≡ Fraction.Micrometres rest) {w : ℕ} (h : WholeIs s (d .first .0) (d .point .0) unit w) where
     behind : fractionC unit (decimalIn s d .fraction) ≡ some rest
     behind = fraction-some _ rest (sym e ∙ k .is)
 
-    pub in-too-long : maxMicrometres < w + rest → measuredOf (Measured.Refused 24) ≡ inMicrometres unit (decimalIn s d)
+    pub in-too-long : maxMicrometres < w + rest → MeasuredIs (inMicrometres unit (decimalIn s d)) (Measured.Refused 24)
     unfolding noLength
-    in-too-long l = too-long unit (decimalIn s d) rest behind (omega (arith, h .is))
+    in-too-long l = record { is = too-long unit (decimalIn s d) rest behind (omega (arith, h .is)); numbered = omega arith }
 
-    pub in-fine : w + rest ≤ maxMicrometres → measuredOf (Measured.Micrometres (w + rest)) ≡ inMicrometres unit (decimalIn s d)
+    pub in-fine : w + rest ≤ maxMicrometres → MeasuredIs (inMicrometres unit (decimalIn s d)) (Measured.Micrometres (w + rest))
     in-fine l =
         let all : w ≡ digitsValue (decimalIn s d .whole) * unit = omega (arith, h .is) in
-        rw all (fine unit (decimalIn s d) rest behind (omega arith))
+        record { is = rw all (fine unit (decimalIn s d) rest behind (omega arith)); numbered = tt }
 
 pub ruleset ins = (in-broken, in-too-long, in-fine)

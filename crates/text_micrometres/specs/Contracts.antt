@@ -55,3 +55,12 @@ pub record FractionIs (s : List ℕ) (from to unit : ℕ) (r : Fraction) : Type 
 abbrev pub measuredOf : Measured → rules.Measured
 measuredOf (Measured.Micrometres n) = record { number = 0; micrometres = n }
 measuredOf (Measured.Refused number) = record { number = number; micrometres = 0 }
+
+-- a refusal's number is not 0, which is none
+abbrev pub Numbered : Measured → Type 0
+Numbered (Measured.Micrometres n) = Unit {0}
+Numbered (Measured.Refused number) = 1 ≤ number
+
+pub record MeasuredIs (m : rules.Measured) (r : Measured) : Type 0 where
+  pub is : measuredOf r ≡ m
+  pub numbered : Numbered r

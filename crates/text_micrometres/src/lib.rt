@@ -12,7 +12,7 @@ ghost use lib.ListN.{length};
 ghost use Rattle.rules.specs.Sizes.{maxDocument};
 ghost use Rattle.rules.specs.Micrometres.{inch, inMicrometres};
 ghost use Rattle.text_decimals.specs.Contracts.{decimalIn};
-ghost use Rattle.text_micrometres.specs.Contracts.{tooMany, DigitsTo, WholeIs, FractionIs, measuredOf};
+ghost use Rattle.text_micrometres.specs.Contracts.{tooMany, DigitsTo, WholeIs, FractionIs, MeasuredIs};
 
 /// A length, or why there is none.
 pub enum Measured {
@@ -50,8 +50,8 @@ fn capped(n: u32) -> u32
     n
 }
 
-// The micrometres of the digits before the dot, however many there are.
-fn whole_part(s: &[u8], from: DocAt, to: DocAt, unit: u32) -> u32
+/// What digits write, times a unit, however many there are: of a length, the micrometres before the dot. TOO_MANY stands for all that is over it.
+pub fn whole_part(s: &[u8], from: DocAt, to: DocAt, unit: u32) -> u32
     requires { ⌜ DigitsTo (now s) (to .0) unit ⌝ }
     ensures { λ r. ⌜ WholeIs (now (s .entry)) (from .0) (to .0) unit r ⌝ }
 {
@@ -88,7 +88,7 @@ fn fraction_part(s: &[u8], from: DocAt, to: DocAt, unit: u32) -> Fraction
 /// The micrometres of a number with this unit.
 pub fn in_micrometres(s: &[u8], unit: u32, d: Decimal) -> Measured
     requires { ⌜ (length (now s) ≤ maxDocument) × (d .point .0 ≤ d .end .0) × (d .end .0 ≤ length (now s)) × (unit ≤ inch) ⌝ }
-    ensures { λ r. ⌜ measuredOf r ≡ inMicrometres unit (decimalIn (now (s .entry)) d) ⌝ }
+    ensures { λ r. ⌜ MeasuredIs (inMicrometres unit (decimalIn (now (s .entry)) d)) r ⌝ }
 {
     let point = d.point;
     let p = point.0;

@@ -45,7 +45,7 @@ refuses : {numbers : List ℕ} {s : Text} (n : ℕ) → mem n numbers ≡ true �
 refuses n h = refusal n h refl
 
 module _ (s : Text) where
-  abbrev Formed : Measured → Type 0
+  abbrev pub Formed : Measured → Type 0
   Formed r = Answered formNumbers s r
 
   module _ (d : Decimal) (reads : decimalOf s ≡ some d) where
@@ -79,7 +79,7 @@ module _ (s : Text) where
         by-test Formed (eqb (d .end) (length s)) (λ e. refuses 21 refl)
         (λ e. by-test Formed string (λ f. unit-answered _ refl) (λ f. refuses 20 refl))
 
-  text-answered : (string : Bool) → Formed (lengthOf string s)
+  pub text-answered : (string : Bool) → Formed (lengthOf string s)
   unfolding lengthOf
   text-answered string =
       by-option Formed (illFormed s) (λ e. by-option Formed (decimalOf s) (λ f. refuses 20 refl) (λ d f. rest-answered d f string))

@@ -1,4 +1,4 @@
-//! The exported jobs and lengths as Rust calls them, and what the tests hold them against.
+//! The exported jobs, lengths and profiles as Rust calls them, and what the tests hold them against.
 
 pub mod documents;
 pub mod jobs;
@@ -9,6 +9,7 @@ pub mod plain_read;
 pub mod plain_resolve;
 pub mod plain_tree;
 pub mod plain_values;
+pub mod profiles;
 pub mod random;
 pub mod sheets;
 
@@ -27,6 +28,17 @@ pub type Answer = Result<Range<usize>, Refusal>;
 /// What reading a length answers: micrometres, or a refusal's number.
 pub type Length = Result<u32, u8>;
 
+/// The limits of a profile, in ten-thousandths of a millimetre.
+#[derive(Clone, Copy, Debug, PartialEq, Eq)]
+pub struct Limits {
+    pub edition: u8,
+    pub minimum: u32,
+    pub maximum: u32,
+}
+
+/// What reading a profile answers: its limits, or a refusal's number.
+pub type Profile = Result<Limits, u8>;
+
 extern "C" {
     // Nothing holds this to the library's own source: keep it equal to include/dzintrulo.h.
     fn dz_look_up(
@@ -38,6 +50,7 @@ extern "C" {
         path_len: usize,
     ) -> u64;
     fn dz_length(table: *const u8, table_len: usize, text: *const u8, text_len: usize) -> u64;
+    fn dz_profile(table: *const u8, table_len: usize, text: *const u8, text_len: usize) -> u64;
 }
 
 /// The exported look-up, with its answer taken apart.
@@ -70,6 +83,23 @@ pub fn length(table: &[u8], text: &[u8]) -> Length {
         0 => {
             assert!(word >> 26 == 0, "a length, with bits set past the micrometres: {word:#x}");
             Ok((word >> 6) as u32)
+        }
+        number => {
+            assert!(word >> 6 == 0, "refused, with bits set past the number: {word:#x}");
+            Err(number)
+        }
+    }
+}
+
+/// The exported reader of profiles, with its answer taken apart. Panics if a bit is set that its case leaves unused.
+pub fn profile(table: &[u8], text: &[u8]) -> Profile {
+    // SAFETY: each pointer comes with the length of its slice, the function only reads, and it has no precondition.
+    let word = unsafe { dz_profile(table.as_ptr(), table.len(), text.as_ptr(), text.len()) };
+    let limit = |shift: u32| (word >> shift) as u32 % (1 << 25);
+    match (word % 64) as u8 {
+        0 => {
+            assert!(word >> 58 == 0, "limits, with bits set past the maximum: {word:#x}");
+            Ok(Limits { edition: (word >> 6) as u8 % 4, minimum: limit(8), maximum: limit(33) })
         }
         number => {
             assert!(word >> 6 == 0, "refused, with bits set past the number: {word:#x}");

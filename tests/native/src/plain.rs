@@ -1,8 +1,8 @@
-//! A plain look-up and a plain reader of lengths: documents 01 and 02 put into everyday Rust, to hold the library
+//! A plain look-up and plain readers of lengths and profiles: documents 01 and 02 put into everyday Rust, to hold the library
 //! against. They share nothing with the library, neither code nor definitions, so that a mistake in one is no mistake in
 //! the other.
 
-use crate::{Answer, Length, Refusal};
+use crate::{Answer, Length, Limits, Profile, Refusal};
 
 /// "a part of a sheet, lent to check or look-up, is over 32,768 bytes"
 const MAX_PART: usize = 32_768;
@@ -71,6 +71,54 @@ pub fn length(table: &[u8], text: &[u8]) -> Length {
         return Err(22);
     }
     micrometres(whole, fraction, unit)
+}
+
+/// The profile of `table`; document 02, No. 11: "New refusals of both editions: `profile` missing or other, `unit`, `plate.min`,
+/// `plate.max`, min above max", after 1 and 15.
+pub fn profile(table: &[u8], text: &[u8]) -> Profile {
+    if table.len() > MAX_PART || text.len() > MAX_PART {
+        return Err(1);
+    }
+    let records = Records { table, text };
+    if records.end(0, MAX_NESTING) != Some(table.len()) {
+        return Err(15);
+    }
+    let value = |path: &[&str]| path.iter().try_fold(0, |at, name| records.member(at, name.as_bytes()));
+    let written = |kind, path: &[&str]| value(path).filter(|at| table[*at] == kind).and_then(|at| records.text(at));
+    // What one is that is counted: hundredths of a millimetre, thousandths of an inch, micrometres.
+    let (edition, step) = match written(4, &["profile"]) {
+        Some(b"1") => match written(5, &["unit"]) {
+            Some(b"mm") => (1, 100),
+            Some(b"in") => (1, 254),
+            _ => return Err(40),
+        },
+        Some(b"2") if value(&["unit"]).is_some() => return Err(40),
+        Some(b"2") => (2, 10),
+        _ => return Err(39),
+    };
+    let count = |name| match edition {
+        1 => bare(written(4, &["plate", name])?),
+        // What No. 3 says of the value by itself.
+        _ => {
+            let at = value(&["plate", name])?;
+            length(&table[at..records.end(at, MAX_NESTING)?], text).ok()
+        }
+    };
+    let minimum = count("min").ok_or(41)? * step;
+    let maximum = count("max").ok_or(42)? * step;
+    if minimum > maximum {
+        return Err(43);
+    }
+    Ok(Limits { edition, minimum, maximum })
+}
+
+/// A JSON number "in digits only from 0 to 100,000".
+fn bare(written: &[u8]) -> Option<u32> {
+    let (number, rest) = digits(written);
+    if number.is_empty() || !rest.is_empty() || number.len() > 1 && number[0] == b'0' {
+        return None;
+    }
+    std::str::from_utf8(number).ok()?.parse().ok().filter(|count| *count <= 100_000)
 }
 
 /// The digits that some bytes start with, and the rest.

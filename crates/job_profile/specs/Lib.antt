@@ -1,0 +1,4 @@
+pub mod Contracts
+pub mod Editions
+pub mod Promises
+pub mod Packed

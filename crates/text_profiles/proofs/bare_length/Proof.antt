@@ -1,0 +1,19 @@
+-- laws: bares
+use Rattle.text_profiles.proofs.Texts.{bares, product-fits}
+use borrow.Author.Needs.{needs}
+use Rattle.text_profiles.proofs.bare_length.Statement.{statement}
+use Rattle.text_profiles.proofs.bare_length.Tie as tie
+
+pub bare-length-spec : {M : Type 1} → statement M
+bare-length-spec =
+    tie.close
+    (tie.spec
+    (λ c κs. search needs)
+    (λ c. search needs)
+    (λ c. search needs)
+    (λ c κs. search needs)
+    (λ c. search product-fits)
+    (λ c. search bares)
+    (λ c. search bares)
+    (λ c. search bares)
+    (λ c. search bares))

@@ -1,0 +1,9 @@
+-- laws: writtens
+use Rattle.text_profiles.proofs.Texts.{writtens, written-fits}
+use borrow.Author.Needs.{needs}
+use Rattle.text_profiles.proofs.written_length.Statement.{statement}
+use Rattle.text_profiles.proofs.written_length.Tie as tie
+
+pub written-length-spec : {M : Type 1} → statement M
+written-length-spec =
+    tie.close (tie.spec (λ c κs. search needs) (λ c. search needs) (λ c. search written-fits) (λ c. search needs) (λ c. search writtens) (λ c. search writtens))
