@@ -10,7 +10,6 @@ finished-elements-spec =
     (tie.spec
     (λ c. search finished-laws)
     (λ c. search needs)
-    (λ c. search needs)
     (λ c κs. search needs)
     (λ c. search needs)
     (λ c κs. search needs)
