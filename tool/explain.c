@@ -60,8 +60,8 @@ static const struct entry {
     {DZ_BAD_MAXIMUM, "`plate.max` is missing, or no length of its profile: in profile 1 a number of 0 to 100000 in digits only,\n"
                      "in profile 2 a number and mm, um or in.",
      "profile = 2\n    plate.min = 1 mm\n    plate.max = 2", "Write 200 in profile 1, by unit = mm, or 2 mm in profile 2."},
-    {DZ_MINIMUM_ABOVE_MAXIMUM, "`plate.min` is above `plate.max`. They may be equal.", "profile = 2\n    plate.min = 1 in\n    plate.max = 20 mm",
-     "Exchange them, or look at their units."},
+    {DZ_MINIMUM_ABOVE_MAXIMUM, "`plate.min` is above `plate.max`. They may be equal.",
+     "profile = 2\n    plate.min = 1 in\n    plate.max = 20 mm", "Exchange them, or look at their units."},
 };
 
 static enum status explain_all(void)

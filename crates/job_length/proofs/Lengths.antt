@@ -87,10 +87,6 @@ module _ (table text : List ℕ) where
     pub whole : (r : Measured) → w ≡ true → measuredOf r ≡ recordLength table text → measuredOf r ≡ lengthJob table text
     whole r e k = k ∙ sym (length-whole table text short short-text (sym j ∙ e))
 
-pub whole-table : {table text : List ℕ} {w : Bool} → length table ≤ maxRoom → length text ≤ maxRoom → w ≡ isWhole table (length text) → w ≡ true
-    → WholeTable table text
-whole-table h k j e = record { short = h; short-text = k; whole = sym j ∙ e }
-
 pub ruleset jobs = (long-table, long-text, not-whole, whole)
 
 -- ---- the packing

@@ -9,17 +9,15 @@ use lib.ListN.{length, take, drop, length-take, length-drop}
 use lib.Seq.{slice}
 use borrow.Author.Tests.{eq-eqb, ne-eqb, lt-ltb, le-ltb}
 use Rattle.rules.specs.Sizes.{maxNesting, maxRoom}
-use Rattle.rules.specs.Bytes.{Text, byteAt, same}
-use Rattle.rules.specs.Numbers.{afterInt}
-use Rattle.rules.specs.Micrometres.{lengthOf}
+use Rattle.rules.specs.Bytes.{Text}
 use Rattle.rules.specs.Sheet.{pairAt}
-use Rattle.rules.specs.LookUp.{isWhole, afterValue, textAt, memberAt, valueNamed}
+use Rattle.rules.specs.LookUp.{isWhole, textAt, memberAt, valueNamed}
 use Rattle.theory.specs.TableSteps.{RecordAt, plain-at, text-at, container-at, membersEnd, value-inv, whole-inv, containerKind}
 use Rattle.theory.specs.LookUpSteps.{named-nil, named-none, named-next}
 use Rattle.theory.specs.Tables.{value-forward}
-use Rattle.theory.specs.LookUps.{WholeAt, named-whole}
+use Rattle.theory.specs.LookUps.{named-whole}
 use Rattle.rules_profile.specs.Profile.{thousandth, noProfile, profile, unit, plate, min, max, textOfKind, textNamed}
-use Rattle.rules_profile.specs.Profile.{Edition, first, second, unnamed, editionOf, editionNamed, stepOf, bareLength, writtenLength}
+use Rattle.rules_profile.specs.Profile.{editionOf, editionNamed, stepOf, bareLength, writtenLength}
 use Rattle.rules_profile.specs.Profile.{limitsOf, firstEdition, secondEdition, byEdition, profileJob}
 use Rattle.text_chars.specs.Cursor.{ByteIs}
 use Rattle.text_chars.specs.Parts.{part-slice}
@@ -146,10 +144,11 @@ module _ (table text key : List ℕ) (kind : ℕ) {r : End} (k : EndIs (memberAt
   pub plate-missing : r ≡ End.Nowhere → TextIs (textNamed table text kind (plate ∷ key ∷ [])) []
   unfolding textNamed textOfKind
   plate-missing e =
-      no-text (ap (λ (o : Option ℕ). textOfKind table text kind o) (named-none table text plate (key ∷ []) 0 (member-none table text plate 0 k e)))
+      let nothing = named-none table text plate (key ∷ []) 0 (member-none table text plate 0 k e) in
+      no-text (ap (λ (o : Option ℕ). textOfKind table text kind o) nothing)
 
-  pub plate-here : {place : RecAt} {s : Text} → r ≡ End.At place → TextIs (textOfKind table text kind (memberAt table text key (place .0))) s
-      → TextIs (textNamed table text kind (plate ∷ key ∷ [])) s
+  pub plate-here : {place : RecAt} {s : Text} → r ≡ End.At place
+      → TextIs (textOfKind table text kind (memberAt table text key (place .0))) s → TextIs (textNamed table text kind (plate ∷ key ∷ [])) s
   unfolding textNamed
   plate-here {place} {s} e t = rw (ap (λ (o : Option ℕ). textOfKind table text kind o) along) t
     where
@@ -223,17 +222,21 @@ module _ (table text : List ℕ) {u : Text} (k : TextIs (textOfKind table text 5
     pub step-small : step ≤ thousandth
     step-small = rw e at (s .at-most)
 
-    module _ {a b : Text} (i : TextIs (textNamed table text 4 (plate ∷ min ∷ [])) a) (j : TextIs (textNamed table text 4 (plate ∷ max ∷ [])) b)
-        {low high : Length} (x : LengthIs (bareLength step (some a)) maxLength low) (y : LengthIs (bareLength step (some b)) maxLength high) where
+    module _ {a b : Text} (i : TextIs (textNamed table text 4 (plate ∷ min ∷ [])) a)
+        (j : TextIs (textNamed table text 4 (plate ∷ max ∷ [])) b) {low high : Length}
+        (x : LengthIs (bareLength step (some a)) maxLength low) (y : LengthIs (bareLength step (some b)) maxLength high) where
       pub first-limits : (r : ProfileRead) → profileOf r ≡ limitsOf 1 (lengthAs low) (lengthAs high) → profileOf r ≡ firstEdition table text
       unfolding firstEdition
       first-limits r q =
           let z : some step ≡ stepOf (textNamed table text 5 (unit ∷ [])) = rw e at step-is in
           let least = textNamed table text 4 (plate ∷ min ∷ []) in
           let most = textNamed table text 4 (plate ∷ max ∷ []) in
-          let minimum : lengthAs low ≡ bareLength step least = x .is ∙ ap (λ (t : Text). bareLength step (some t)) (i .is) ∙ bare-or step least in
-          let maximum : lengthAs high ≡ bareLength step most = y .is ∙ ap (λ (t : Text). bareLength step (some t)) (j .is) ∙ bare-or step most in
-          q ∙ ap (λ (o : Option ℕ). limitsOf 1 o (lengthAs high)) minimum ∙ ap (λ (o : Option ℕ). limitsOf 1 (bareLength step least) o) maximum
+          let minimum : lengthAs low ≡ bareLength step least =
+          x .is ∙ ap (λ (t : Text). bareLength step (some t)) (i .is) ∙ bare-or step least in
+          let maximum : lengthAs high ≡ bareLength step most =
+          y .is ∙ ap (λ (t : Text). bareLength step (some t)) (j .is) ∙ bare-or step most in
+          q ∙ ap (λ (o : Option ℕ). limitsOf 1 o (lengthAs high)) minimum
+          ∙ ap (λ (o : Option ℕ). limitsOf 1 (bareLength step least) o) maximum
           ∙ sym (rw (sym z, firstEdition))
 
 pub ruleset firsts = (first-no-unit, first-limits)
@@ -265,10 +268,6 @@ pub ruleset seconds = (second-unit, second-limits)
 
 -- ---- the job
 
-pub whole-table : {table text : List ℕ} {w : Bool} → length table ≤ maxRoom → length text ≤ maxRoom → w ≡ isWhole table (length text) → w ≡ true
-    → WholeTable table text
-whole-table h k j e = record { short = h; short-text = k; whole = sym j ∙ e }
-
 module _ (table text : List ℕ) where
   pub long-table : maxRoom < length table → profileOf (ProfileRead.Refused 1) ≡ profileJob table text
   unfolding noProfile profileJob
@@ -293,11 +292,13 @@ module _ (table text : List ℕ) where
           (sym (h ∙ ap (λ (t : Text). editionOf (some t)) (k .is) ∙ edition-or (textOfKind table text 4 (memberAt table text profile 0))
           ∙ ap (λ (o : Option ℕ). editionOf (textOfKind table text 4 o)) (sym (named-one table text profile 0))))
 
-      pub of-first : (r : ProfileRead) → x ≡ code.Edition.First → profileOf r ≡ firstEdition table text → profileOf r ≡ profileJob table text
+      pub of-first : (r : ProfileRead) → x ≡ code.Edition.First → profileOf r ≡ firstEdition table text
+          → profileOf r ≡ profileJob table text
       unfolding byEdition
       of-first r z q = q ∙ sym (by-edition ∙ rw z)
 
-      pub of-second : (r : ProfileRead) → x ≡ code.Edition.Second → profileOf r ≡ secondEdition table text → profileOf r ≡ profileJob table text
+      pub of-second : (r : ProfileRead) → x ≡ code.Edition.Second → profileOf r ≡ secondEdition table text
+          → profileOf r ≡ profileJob table text
       unfolding byEdition
       of-second r z q = q ∙ sym (by-edition ∙ rw z)
 

@@ -10,7 +10,8 @@ use Rattle.rules.specs.Sizes.{maxRoom}
 use Rattle.rules.specs.LookUp.{isWhole}
 use Rattle.theory_text.specs.Choices.{same-test}
 use Rattle.theory.specs.Layout.{both-true}
-use Rattle.rules_profile.specs.Profile.{Profile, noProfile, Edition, first, second, editionNamed, firstEdition, secondEdition, byEdition, profileBy, profileJob}
+use Rattle.rules_profile.specs.Profile.{Profile, noProfile, Edition, first, second, editionNamed}
+use Rattle.rules_profile.specs.Profile.{firstEdition, secondEdition, byEdition, profileBy, profileJob}
 
 -- an edition's rules: what they say of a table and its text part
 abbrev pub Rules : Type 0
@@ -34,7 +35,8 @@ module _ (one two : Rules) (table text : List ℕ) where
     profile-not-whole e = rw (profileBy, le-leb _ _ short, le-leb _ _ short-text, e)
 
     -- of a whole table the edition that it names chooses, and nothing else of it is looked at before
-    pub profile-whole : isWhole table (length text) ≡ true → profileBy one two table text ≡ byEdition one two table text (editionNamed table text)
+    pub profile-whole : isWhole table (length text) ≡ true
+        → profileBy one two table text ≡ byEdition one two table text (editionNamed table text)
     unfolding profileBy
     profile-whole e = rw (profileBy, le-leb _ _ short, le-leb _ _ short-text, e)
 
@@ -46,7 +48,8 @@ module _ (table text : List ℕ) where
   unfolding byEdition
   first-chosen one two other x e = rw e
 
-  pub first-alone : (one two other : Rules) → editionNamed table text ≡ first → profileBy one two table text ≡ profileBy one other table text
+  pub first-alone : (one two other : Rules) → editionNamed table text ≡ first
+      → profileBy one two table text ≡ profileBy one other table text
   unfolding profileBy
   first-alone one two other e =
       same-test (lentBounds table text)
@@ -56,7 +59,8 @@ module _ (table text : List ℕ) where
   unfolding byEdition
   second-chosen one two other x e = rw e
 
-  pub second-alone : (one two other : Rules) → editionNamed table text ≡ second → profileBy one two table text ≡ profileBy other two table text
+  pub second-alone : (one two other : Rules) → editionNamed table text ≡ second
+      → profileBy one two table text ≡ profileBy other two table text
   unfolding profileBy
   second-alone one two other e =
       same-test (lentBounds table text)

@@ -1,5 +1,5 @@
 -- A profile's 64 bits, and that the header's functions take out of them what was packed into them.
-use mathlib.Core.Path.{_≡_, sym, _∙_, ap}
+use mathlib.Core.Path.{_≡_}
 use Prim.Native.Nat.{ℕ, _+_, _*_, _/_, _%_, _<_}
 use mathlib.Core.Bool.{true}
 use mathlib.Core.Logic.{inl, inr}
@@ -9,7 +9,7 @@ use Rattle.answers.specs.Ask.{mem}
 use Rattle.answers.specs.Theory.Sound.{clash, All, mem-cases}
 use Rattle.rules_profile.specs.Profile.{profileNumbers, Profile, noProfile, profileJob}
 use Rattle.job_profile.specs.Contracts.{profileOf}
-use Rattle.job_profile.specs.Promises.{Told, first-told, second-told, refused-told, profile-told, Bounded, profile-bounded}
+use Rattle.job_profile.specs.Promises.{Told, first-told, second-told, refused-told, profile-told, profile-bounded}
 use Rattle.job_profile.specs.declared.ProfileRead.{ProfileRead}
 
 -- Bits 0 to 5: the number. Bits 6 and 7: the edition. Bits 8 to 32: the minimum. Bits 33 to 57: the maximum. The others are 0.

@@ -1,5 +1,5 @@
--- What the job promises beside its equation: which refusals it gives, and what they leave; that what is answered is exact, in order and within
--- its bits; and that its values are those which look-up finds. Each is one statement for all lists of numbers.
+-- What the job promises beside its equation: which refusals it gives, and what they leave; that what is answered is exact, in order and
+-- within its bits; and that its values are those which look-up finds. Each is one statement for all lists of numbers.
 use mathlib.Core.Path.{_≡_, refl, sym, _∙_, ap}
 use Prim.Native.Nat.{ℕ, _*_, _≤_}
 use Prim.Native.String.{String}
@@ -31,7 +31,8 @@ use Rattle.theory.specs.TableSteps.{some-one}
 use Rattle.theory.specs.LookUpSteps.{look-up-path}
 use Rattle.theory.specs.Micrometres.{Exact, formNumbers, Answered, exactly, refusal, text-answered}
 use Rattle.rules_profile.specs.Profile.{profileNumbers, Profile, noProfile, profile, unit, plate, min, max, millimetres, inches, textNamed}
-use Rattle.rules_profile.specs.Profile.{Edition, first, second, unnamed, editionNamed, thousandth, maxBare, stepOf, bareLength, writtenLength}
+use Rattle.rules_profile.specs.Profile.{Edition, first, second, unnamed, editionNamed}
+use Rattle.rules_profile.specs.Profile.{thousandth, maxBare, stepOf, bareLength, writtenLength}
 use Rattle.rules_profile.specs.Profile.{limitsOf, firstEdition, secondEdition, byEdition, profileBy, profileJob}
 use Rattle.job_profile.specs.Editions.{profile-long, profile-not-whole, profile-editions}
 
@@ -195,7 +196,8 @@ module _ (table text : List ℕ) where
   other-number p n (second-told z e u a b l) h f = let g : n ≡ 0 = sym f ∙ z in absurd (clash {A = ⊥} (cc (rw g at h)))
   other-number p n (refused-told m k q) h f =
       let g : m ≡ n = sym (ap (λ (x : Profile). x .number) q) ∙ f in
-      let i : mem n (0 ∷ wholeNumbers) ≡ true = among-all wholeNumbers (0 ∷ wholeNumbers) (refl, (refl, (refl, (refl, (refl, tt))))) n (rw g at k) in
+      let i : mem n (0 ∷ wholeNumbers) ≡ true =
+      among-all wholeNumbers (0 ∷ wholeNumbers) (refl, (refl, (refl, (refl, (refl, tt))))) n (rw g at k) in
       absurd (clash {A = ⊥} (cc))
 
   abbrev whole-is : length table ≤ maxRoom → length text ≤ maxRoom → isWhole table (length text) ≡ true
@@ -209,12 +211,14 @@ module _ (table text : List ℕ) where
     λ h. ap (λ (p : Profile). p .number) (profile-long firstEdition secondEdition table text (λ a b. h (a, b))),
   )
     where
-      go : profileJob table text .number ≡ 1 → length table ≤ maxRoom → length text ≤ maxRoom → (w : Bool) → isWhole table (length text) ≡ w → ⊥
+      go : profileJob table text .number ≡ 1 → length table ≤ maxRoom → length text ≤ maxRoom
+          → (w : Bool) → isWhole table (length text) ≡ w → ⊥
       go e a b true w = other-number _ 1 (edition-told (editionNamed table text)) refl (sym (whole-is a b w) ∙ e)
       go e a b false w =
           absurd (omega (arith, e, ap (λ (p : Profile). p .number) (profile-not-whole firstEdition secondEdition table text a b w)))
 
-  pub profile-15 : length table ≤ maxRoom → length text ≤ maxRoom → (profileJob table text .number ≡ 15) ↔ (isWhole table (length text) ≡ false)
+  pub profile-15 : length table ≤ maxRoom → length text ≤ maxRoom
+      → (profileJob table text .number ≡ 15) ↔ (isWhole table (length text) ≡ false)
   unfolding noProfile profileJob
   profile-15 a b = (
     λ e. go e (isWhole table (length text)) refl,

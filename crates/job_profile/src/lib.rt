@@ -15,7 +15,6 @@ use text_profiles::bare_length;
 use text_profiles::written_length;
 ghost use mathlib.Core.Path.{_≡_};
 ghost use mathlib.Core.List.{[], _∷_};
-ghost use Prim.Native.Nat.{_≤_};
 ghost use Rattle.rules.specs.LookUp.{memberAt};
 ghost use Rattle.rules_profile.specs.Profile.{plate, textOfKind, textNamed, limitsOf, firstEdition, secondEdition, profileJob};
 ghost use Rattle.text_profiles.specs.Contracts.{lengthAs};

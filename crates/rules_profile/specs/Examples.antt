@@ -3,9 +3,7 @@
 use mathlib.Core.Path.{_≡_, refl}
 use Prim.Native.Nat.{ℕ}
 use Prim.Native.String.{String}
-use mathlib.Core.List.{List, [], _∷_, _++_, map}
-use lib.ListN.{replicate}
-use Rattle.rules.specs.Bytes.{Text}
+use mathlib.Core.List.{List, [], _∷_, map}
 use Rattle.rules.specs.Values.{Value}
 use Rattle.rules.specs.Sheet.{records, texts}
 use Rattle.rules.specs.Jobs.{resolveJob}
@@ -95,7 +93,8 @@ profiles-hold = refl
 -- ---- tables that no document has
 
 -- digits only, and a JSON number too: it starts with no zero
-leading-zero : lent (obj (("profile", num "1") ∷ ("unit", str "in") ∷ ("plate", obj (("min", num "007") ∷ ("max", num "9") ∷ [])) ∷ [])) .number ≡ 41
+leading-zero : lent (obj (("profile", num "1") ∷ ("unit", str "in")
+    ∷ ("plate", obj (("min", num "007") ∷ ("max", num "9") ∷ [])) ∷ [])) .number ≡ 41
 unfolding lent num str obj
 leading-zero = refl
 

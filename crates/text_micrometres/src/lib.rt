@@ -50,7 +50,8 @@ fn capped(n: u32) -> u32
     n
 }
 
-/// What digits write, times a unit, however many there are: of a length, the micrometres before the dot. TOO_MANY stands for all that is over it.
+/// What digits write, times a unit, however many there are: of a length, the micrometres before the dot. TOO_MANY stands for all that is
+/// over it.
 pub fn whole_part(s: &[u8], from: DocAt, to: DocAt, unit: u32) -> u32
     requires { ⌜ DigitsTo (now s) (to .0) unit ⌝ }
     ensures { λ r. ⌜ WholeIs (now (s .entry)) (from .0) (to .0) unit r ⌝ }

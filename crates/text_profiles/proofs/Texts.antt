@@ -1,8 +1,8 @@
 -- One law for each answer of the functions on the texts of a profile's settings.
-use mathlib.Core.Path.{_≡_, refl, sym, _∙_, ap}
+use mathlib.Core.Path.{_≡_, sym, _∙_, ap}
 use mathlib.Core.Bool.{Bool, true, false}
-use mathlib.Core.List.{List, [], _∷_}
-use mathlib.Core.Option.{Option, none, some}
+use mathlib.Core.List.{[], _∷_}
+use mathlib.Core.Option.{none, some}
 use Prim.Native.Nat.{ℕ, _*_, _^_, _≤_, _<_, min}
 use native.Mathlib.Nat.{mul-le-mul}
 use native.Mathlib.Omega.{arith}
@@ -11,14 +11,12 @@ use lib.Seq.{slice, take-all}
 use borrow.Author.Tests.{eq-eqb, ne-eqb, le-leb, lt-leb}
 use Rattle.rules.specs.Sizes.{maxMicrometres}
 use Rattle.rules.specs.Bytes.{Text, same}
-use Rattle.rules.specs.Refusals.{nowhere}
 use Rattle.rules.specs.Numbers.{afterInt}
 use Rattle.rules.specs.Micrometres as lengths
 use Rattle.rules.specs.Micrometres.{noLength, digitsValue, lengthOf}
 use Rattle.theory.specs.Micrometres.{formNumbers, Answered, exactly, refusal, text-answered}
-use Rattle.text_chars.specs.Clash.{clash}
 use Rattle.text_chars.specs.declared.Cursor.{Cursor}
-use Rattle.text_numbers.specs.Contracts.{NumberIs, endOf}
+use Rattle.text_numbers.specs.Contracts.{NumberIs}
 use Rattle.text_numbers.specs.declared.Number.{Number}
 use Rattle.text_micrometres.specs.Contracts.{tooMany, WholeIs, MeasuredIs}
 use Rattle.text_micrometres.specs.declared.Measured.{Measured}
@@ -43,7 +41,8 @@ module _ (s : Text) where
     unfolding editionOf
     edition-unnamed f = sym (rw (sym h ∙ e, sym k ∙ f, editionOf))
 
-  pub step-hundredth : {t : Bool} → t ≡ same s (109 ∷ 109 ∷ []) → t ≡ true → LengthIs (stepOf (some s)) thousandth (Length.TenThousandths 100)
+  pub step-hundredth : {t : Bool} → t ≡ same s (109 ∷ 109 ∷ []) → t ≡ true
+      → LengthIs (stepOf (some s)) thousandth (Length.TenThousandths 100)
   unfolding stepOf
   step-hundredth h e = record { is = sym (rw (sym h ∙ e, stepOf)); at-most = omega arith }
 
@@ -93,7 +92,10 @@ module _ (s : Text) (step : ℕ) {r : Number} (k : NumberIs s 0 (afterInt s 0) r
       bare-long l =
           let z = counted in
           let over : maxBare < digitsValue s = omega arith in
-          record { is = sym (rw (digits-end, eq-eqb (c .at .0) (length s) h, lt-leb (digitsValue s) maxBare over, bareLength)); at-most = tt }
+          record {
+            is = sym (rw (digits-end, eq-eqb (c .at .0) (length s) h, lt-leb (digitsValue s) maxBare over, bareLength));
+            at-most = tt;
+          }
 
       pub bare-counts : step ≤ thousandth → n ≤ maxBare → LengthIs (bareLength step (some s)) maxLength (Length.TenThousandths (n * step))
       unfolding bareLength
@@ -121,7 +123,9 @@ module _ (s : Text) {m : Measured} (k : MeasuredIs (lengthOf true s) m) where
     answered = let z : record { number = 0; micrometres = n } ≡ lengthOf true s = rw e at (k .is) in sym z
 
     micrometres-small : n ≤ maxMicrometres
-    micrometres-small = let l = length-small s (lengthOf true s) (text-answered s true) in omega (arith, l, ap (λ (x : lengths.Measured). x .micrometres) answered)
+    micrometres-small =
+        let l = length-small s (lengthOf true s) (text-answered s true) in
+        omega (arith, l, ap (λ (x : lengths.Measured). x .micrometres) answered)
 
     pub written-fits : n * 10 < 2 ^ 32
     written-fits = omega (arith, micrometres-small)

@@ -1,5 +1,6 @@
 -- laws: jobs
-use Rattle.job_length.proofs.Lengths.{jobs, whole-table}
+use Rattle.job_length.specs.Contracts.{whole-table}
+use Rattle.job_length.proofs.Lengths.{jobs}
 use borrow.Author.Needs.{needs}
 use Rattle.job_length.proofs.length.Statement.{statement}
 use Rattle.job_length.proofs.length.Tie as tie

@@ -1,5 +1,6 @@
 -- laws: jobs
-use Rattle.job_profile.proofs.Profiles.{jobs, root-value, whole-table}
+use Rattle.job_length.specs.Contracts.{whole-table}
+use Rattle.job_profile.proofs.Profiles.{jobs, root-value}
 use borrow.Author.Needs.{needs}
 use Rattle.job_profile.proofs.profile.Statement.{statement}
 use Rattle.job_profile.proofs.profile.Tie as tie
