@@ -131,7 +131,7 @@ DZ_INLINE const char *dz_version(void)
 #define DZ_NESTING_MAX 32u        /* arrays and objects in one another; the root counts */
 #define DZ_MICROMETRES_MAX 1000000u /* a length, in micrometres */
 #define DZ_PROFILE_LENGTH_MAX 25400000u /* a limit of a profile, in ten-thousandths of a millimetre */
-#define DZ_STACK_MAX 524288u      /* bytes of stack that dz_resolve() and dz_check() take at most */
+#define DZ_STACK_MAX 573440u      /* bytes of stack that dz_resolve() and dz_check() take at most */
 #define DZ_LOOK_UP_STACK_MAX 8192u /* the same of dz_look_up(), dz_length() and dz_profile() */
 
 /*

@@ -12,7 +12,7 @@
 
 #define STACK (4u << 20)
 #define PAINT 0xa5
-#define MARGIN (DZ_STACK_MAX / 64)
+#define MARGIN 32768u /* a worse document may be found */
 #define LOOK_UP_MARGIN (DZ_LOOK_UP_STACK_MAX / 4)
 
 static uint8_t stack_memory[STACK] __attribute__((aligned(4096)));

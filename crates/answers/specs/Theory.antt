@@ -4,6 +4,7 @@ pub mod Holds
 pub mod Sound
 pub mod Fuel
 pub mod Bind
+pub mod Covers
 pub mod Complete
 pub mod Reorder
 pub mod Machine
@@ -12,4 +13,7 @@ pub mod Env
 pub mod Budget
 pub mod Invariant
 pub mod InOrder
+pub mod Ahead
+pub mod AheadTurns
+pub mod AheadExamples
 pub mod Examples

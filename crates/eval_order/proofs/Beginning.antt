@@ -71,18 +71,22 @@ module _ {T : List ℕ} {b budget m : ℕ} {p : Progress} {place : DocAt} (A : B
   pub begin-circular : (m ≡ 0 → ⊥) → BeginIs b p budget T T (Step.Refused 10 place)
   begin-circular f = record {
     is = λ t key items B trail text stack S n e l new H.
-        let y = P .is ∙ first-byte (H .state .document) b l in
-        bar-circular t S stack n b new (marked m (begun S stack b) (R .is ∙ H .marks b (A .number)) f)
-        ∙ ap (λ (i : ℕ). some (placed 10 i)) (sym y);
+        let y = P .is ∙ first-byte (H .state .document) b l in (
+          bar-circular t S stack n b new (marked m (begun S stack b) (R .is ∙ H .marks b (A .number)) f)
+              ∙ ap (λ (i : ℕ). some (placed 10 i)) (sym y),
+          refl,
+        );
   }
 
   pub begin-excess : m ≡ 0 → budget ≤ p .begun → BeginIs b p budget T T (Step.Refused 12 place)
   begin-excess f h = record {
     is = λ t key items B trail text stack S n e l new H.
         let y = P .is ∙ first-byte (H .state .document) b l in
-        let c = H .count in
-        bar-excess t S stack n b new (unmarked m (begun S stack b) (R .is ∙ H .marks b (A .number)) f) (omega arith)
-        ∙ ap (λ (i : ℕ). some (placed 12 i)) (sym y);
+        let c = H .count in (
+          bar-excess t S stack n b new (unmarked m (begun S stack b) (R .is ∙ H .marks b (A .number)) f) (omega arith)
+              ∙ ap (λ (i : ℕ). some (placed 12 i)) (sym y),
+          refl,
+        );
   }
 
   pub begin-free : m ≡ 0 → p .begun < budget

@@ -97,7 +97,7 @@ module _ {T B room : List ℕ} {o : Out} {b : ℕ} {p : Progress} {trail text : 
       ∙ ap (λ (m : ℕ). trailFits (length trail) m ((b, some (named key v)) ∷ S)) (sym (H .text-room)) ∙ sym f
 
   pub lay-full : r ≡ false → LayIs room o b p T T B B trail trail text text (Step.Refused 14 (record { 0 = 0 }))
-  lay-full e = record { is = λ t key items stack S n v H X. (tested v H X ∙ e, refl, refl) }
+  lay-full e = record { is = λ t key items stack S n v H X. (tested v H X ∙ e, refl, refl, refl, refl) }
 
   pub lay-done : {T′ B′ trail′ text′ : List ℕ} → r ≡ true → AddIs room o b (p .used .0) (p .text .0) trail trail′ text text′
       → AnswerIs room o b (p .used .0) (p .text .0) T T′ B B′ → {q : Progress} → MoreIs p o q
@@ -159,7 +159,7 @@ module _ {T : List ℕ} {b : ℕ} {p : Progress} {trail text : List ℕ} {r : Bo
       ∙ ap (λ (m : ℕ). trailFits (length trail) m ((b, none) ∷ S)) (sym (H .text-room)) ∙ sym f
 
   pub none-full : r ≡ false → NoneIs b p T T trail trail text (Step.Refused 14 (record { 0 = 0 }))
-  none-full e = record { is = λ t key items B stack S n H. (none-tested H ∙ e, refl, refl) }
+  none-full e = record { is = λ t key items B stack S n H. (none-tested H ∙ e, refl, refl, refl, refl) }
 
   pub none-done : {T′ trail′ : List ℕ} → r ≡ true → AddUndefinedIs b (p .used .0) trail trail′ → UndefinedIs b T T′ → {q : Progress}
       → MoreIs p nothing q → NoneIs b p T T′ trail trail′ text (Step.On q)

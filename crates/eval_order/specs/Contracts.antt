@@ -1,4 +1,5 @@
--- What beginning and laying promise: what holds between two turns of the order goes on to hold, and the rules' tests came out so.
+-- What beginning and laying promise: what holds between two turns of the order goes on to hold, and the rules' tests came out so. A refusal leaves
+-- the job's memory as it is: the questions that have begun are run against it once more.
 use mathlib.Core.Path.{_≡_}
 use mathlib.Core.Bool.{Bool, true, false}
 use mathlib.Core.List.{List, _∷_}
@@ -63,7 +64,7 @@ pub record BeginAsked (T : List ℕ) (b : ℕ) : Type 0 where
 abbrev pub Begins : (t : Task) (key : ℕ → Text) (items : ℕ) (T T′ B trail text : List ℕ) (stack : List ℕ) (S : Trail Answer) (n b : ℕ) → Step → Type 0
 Begins t key items T T′ B trail text stack S n b (Step.On q) =
     (barOf t stack n b ≡ none) × Holding t key items T′ B trail text q (b ∷ stack) S (suc n) × Later T B S T′ B S
-Begins t key items T T′ B trail text stack S n b (Step.Refused number place) = barOf t stack n b ≡ some (placed number (place .0))
+Begins t key items T T′ B trail text stack S n b (Step.Refused number place) = (barOf t stack n b ≡ some (placed number (place .0))) × (T′ ≡ T)
 
 pub record BeginIs (b : ℕ) (p : Progress) (budget : ℕ) (T T′ : List ℕ) (r : Step) : Type 0 where
   pub is : (t : Task) (key : ℕ → Text) (items : ℕ) (B trail text stack : List ℕ) (S : Trail Answer) (n : ℕ) → budget ≡ t .budget → b < questionsOf t
@@ -95,7 +96,7 @@ Lays t key items T T′ B B′ trail text stack S n b a (Step.On q) =
     (trailFits (t .trailRoom) (t .textRoom) ((b, a) ∷ S) ≡ true) × Holding t key items T′ B′ trail text q stack ((b, a) ∷ S) n
     × Later T B S T′ B′ ((b, a) ∷ S)
 Lays t key items T T′ B B′ trail text stack S n b a (Step.Refused number place) =
-    (trailFits (t .trailRoom) (t .textRoom) ((b, a) ∷ S) ≡ false) × (number ≡ 14) × (place .0 ≡ 0)
+    (trailFits (t .trailRoom) (t .textRoom) ((b, a) ∷ S) ≡ false) × (number ≡ 14) × (place .0 ≡ 0) × (T′ ≡ T) × (B′ ≡ B)
 
 pub record LayAsked (T B room : List ℕ) (o : Out) (b : ℕ) (p : Progress) (trail text : List ℕ) : Type 0 where
   pub full : Full room o

@@ -14,6 +14,7 @@ use Rattle.rules.specs.Unresolved as rules
 use Rattle.rules.specs.Unresolved.{Unresolved, blank}
 use Rattle.rules.specs.Documents.{Setting}
 use Rattle.theory.specs.SettledAnswers.{openIn, joinPieceIn, substitutionIn, severalIn}
+use Rattle.theory_order.specs.Skeletons.{restOf}
 use Rattle.text_chars.specs.declared.DocAt.{DocAt}
 use Rattle.doc_items.specs.Room.{bytesRoom, numberBound}
 use Rattle.eval_writer.specs.Contracts.{Room}
@@ -40,11 +41,6 @@ use Rattle.eval_questions.specs.Standing.{PiecesLeft, pieces-begin, pieces-end,
 
 -- ---- the pieces that are left
 
-abbrev restOf : Pieces → Pieces
-restOf no-pieces = no-pieces
-restOf (nodePiece place gap n ps) = ps
-restOf (substituted gap y ps) = ps
-
 several-first : (x : Setting) (known : ℕ → Option Answer) (u : Unresolved) (ps : Pieces) (J : rules.Join)
     → severalBy x known u ps J ≡ then (firstIn x known u ps J) (λ k. severalBy x known u (restOf ps) k)
 unfolding severalIn
@@ -63,27 +59,27 @@ behind-low (reference h) = let l = behind-low h in omega arith
 
 module _ {x : Setting} {key : ℕ → Text} {items : ℕ} {T B E : List ℕ} {S : Trail Answer} {base item b : ℕ} {u : Unresolved}
     (Q : Questioned x key items T B E S base item b u) where
-  abbrev end : ℕ
+  abbrev pub end : ℕ
   end = item + getD T (8 * item + 1) 0
 
-  behind-left : {i : ℕ} {ps : Pieces} → Behind T (item + 1) (u .pieces) i ps → PiecesLeft Q i end ps
+  pub behind-left : {i : ℕ} {ps : Pieces} → Behind T (item + 1) (u .pieces) i ps → PiecesLeft Q i end ps
   behind-left none = pieces-begin Q
   behind-left (node h) = node-rest Q (behind-left h)
   behind-left (reference h) = reference-rest Q (behind-left h)
 
   module _ {i : ℕ} where
-    inside : (ps : Pieces) → PiecesLeft Q i end ps → i < end → (1 ≤ getD T (8 * i + 1) 0) × (i + getD T (8 * i + 1) 0 ≤ end)
+    pub inside : (ps : Pieces) → PiecesLeft Q i end ps → i < end → (1 ≤ getD T (8 * i + 1) 0) × (i + getD T (8 * i + 1) 0 ≤ end)
     inside no-pieces L l = absurd (omega (arith, pieces-end Q L))
     inside (nodePiece place gap n ps) L l = node-inside Q L
     inside (substituted gap y ps) L l = reference-inside Q L
 
-    behind-next : (ps : Pieces) → i < end → Behind T (item + 1) (u .pieces) i ps → Behind T (item + 1) (u .pieces) (i + getD T (8 * i + 1) 0) (restOf ps)
+    pub behind-next : (ps : Pieces) → i < end → Behind T (item + 1) (u .pieces) i ps → Behind T (item + 1) (u .pieces) (i + getD T (8 * i + 1) 0) (restOf ps)
     behind-next no-pieces l h = absurd (omega (arith, pieces-end Q (behind-left h)))
     behind-next (nodePiece place gap n ps) l h = node h
     behind-next (substituted gap y ps) l h = reference h
 
     -- at the end none is left
-    behind-end : (ps : Pieces) → end ≤ i → Behind T (item + 1) (u .pieces) i ps → ps ≡ no-pieces
+    pub behind-end : (ps : Pieces) → end ≤ i → Behind T (item + 1) (u .pieces) i ps → ps ≡ no-pieces
     behind-end no-pieces l h = refl
     behind-end (nodePiece place gap n ps) l h =
         let f = node-inside Q (behind-left h) in

@@ -1,5 +1,5 @@
 // The order: what the root's value needs is worked out, one unresolved value after another, as its layers are walked. Nothing is written but
-// the trail; when this is done, no answer that the root's value takes is missing.
+// the trail; when this is done, no answer that the root's value takes is missing. The list of questions is lent through all levels.
 // Computes: theory_order's settling by levels
 use eval_need_laws::Need;
 use eval_need_laws::Span;
@@ -9,6 +9,9 @@ use eval_order::Progress;
 use eval_order::Step;
 use eval_values::LEVELS;
 use eval_work::work;
+ghost use Prim.Native.Nat.{_≤_};
+ghost use lib.ListN.{length};
+ghost use Rattle.eval_turns.specs.Contracts.{listRoom};
 ghost use Rattle.eval_settle_laws.specs.Contracts.{OneAsked, OneIs, AllAsked, AllIs, RootAsked, RootIs};
 
 // The root is the first item.
@@ -23,13 +26,15 @@ fn settle_one(
     room: &mut [u8],
     trail: &mut [u8],
     text: &mut [u8],
+    list: &mut [u16],
     top: usize,
     need: Need,
     at: Progress,
     budget: usize,
     levels: usize,
 ) -> Step
-    requires { ⌜ OneAsked (now table) (now bytes) (now env) (now stack) (now room) (now trail) (now text) top need at budget ⌝ }
+    requires { ⌜ OneAsked (now table) (now bytes) (now env) (now stack) (now room) (now trail) (now text) top need at budget
+        × (listRoom ≤ length (now list)) ⌝ }
     ensures { λ r. ⌜ OneIs (now (env .entry)) top need at budget levels
         (now (table .entry)) (now (table .exit)) (now (bytes .entry)) (now (bytes .exit))
         (now (stack .entry)) (now (stack .exit))
@@ -46,6 +51,7 @@ fn settle_one(
             room,
             trail,
             text,
+            list,
             b,
             at,
             budget,
@@ -62,6 +68,7 @@ fn settle_one(
                 room,
                 trail,
                 text,
+                list,
                 span,
                 at,
                 budget,
@@ -80,12 +87,14 @@ fn settle_all(
     room: &mut [u8],
     trail: &mut [u8],
     text: &mut [u8],
+    list: &mut [u16],
     span: Span,
     at: Progress,
     budget: usize,
     levels: usize,
 ) -> Step
-    requires { ⌜ AllAsked (now table) (now bytes) (now env) (now stack) (now room) (now trail) (now text) span at budget ⌝ }
+    requires { ⌜ AllAsked (now table) (now bytes) (now env) (now stack) (now room) (now trail) (now text) span at budget
+        × (listRoom ≤ length (now list)) ⌝ }
     ensures { λ r. ⌜ AllIs (now (env .entry)) span at budget levels
         (now (table .entry)) (now (table .exit)) (now (bytes .entry)) (now (bytes .exit))
         (now (stack .entry)) (now (stack .exit))
@@ -106,6 +115,7 @@ fn settle_all(
             room,
             trail,
             text,
+            list,
             top,
             need,
             state,
@@ -133,10 +143,12 @@ pub fn settle_root(
     room: &mut [u8],
     trail: &mut [u8],
     text: &mut [u8],
+    list: &mut [u16],
     at: Progress,
     budget: usize,
 ) -> Step
-    requires { ⌜ RootAsked (now table) (now bytes) (now env) (now stack) (now room) (now trail) (now text) at budget ⌝ }
+    requires { ⌜ RootAsked (now table) (now bytes) (now env) (now stack) (now room) (now trail) (now text) at budget
+        × (listRoom ≤ length (now list)) ⌝ }
     ensures { λ r. ⌜ RootIs (now (env .entry)) at budget
         (now (table .entry)) (now (table .exit)) (now (bytes .entry)) (now (bytes .exit)) (now (stack .entry))
         (now (trail .entry)) (now (trail .exit)) (now (text .entry)) (now (text .exit)) r ⌝ }
@@ -150,6 +162,7 @@ pub fn settle_root(
         room,
         trail,
         text,
+        list,
         0,
         need,
         at,

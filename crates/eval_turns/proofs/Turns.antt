@@ -2,7 +2,8 @@
 use mathlib.Core.Path.{_≡_, refl, sym, ap, subst, _∙_}
 use mathlib.Core.List.{List}
 use Prim.Native.Nat.{ℕ, _+_, _-_, _<_}
-use lib.ListN.{length, getD, set}
+use native.Mathlib.Omega.{arith}
+use lib.ListN.{length, getD, set, length-set}
 use Rattle.doc_items.specs.Room.{indexAt}
 use Rattle.doc_items.specs.Writing.{ReadIs}
 use Rattle.text_chars.specs.declared.DocAt.{DocAt}
@@ -11,7 +12,7 @@ use Rattle.eval_sizes.specs.declared.Outcome.{Outcome}
 use Rattle.eval_order.specs.Contracts.{BeginAsked, BeginIs, LayAsked, LayIs, NoneAsked, NoneIs}
 use Rattle.eval_order.specs.declared.Progress.{Progress}
 use Rattle.eval_order.specs.declared.Step.{Step}
-use Rattle.eval_turns.specs.Contracts.{LaidIs, BegunAsked, BegunIs, TurnNeeds, TurnAsked, TurnIs, ItemIs}
+use Rattle.eval_turns.specs.Contracts.{piecesAt, LaidIs, BegunAsked, BegunIs, TurnNeeds, TurnAsked, TurnIs, ItemIs}
 use Rattle.eval_turns.specs.declared.Next.{Next}
 
 -- ---- an answer is laid
@@ -40,12 +41,15 @@ module _ {T L : List ℕ} {n d : ℕ} {p : Progress} {budget : ℕ} (A : BegunAs
 
     module _ {p′ : Progress} (e : s ≡ Step.On p′) where
       pub begun-room : n < length L
-      begun-room = A .room T′ p′ (rw e at G)
+      begun-room = omega (arith, A .room T′ p′ (rw e at G))
 
-      pub begun-on : BegunIs n d p budget T T′ L (set L n d) (Next.On (n + 1) p′)
+      pub begun-piece-room : piecesAt + n < length (set L n d)
+      begun-piece-room = omega (arith, A .room T′ p′ (rw e at G), length-set L n d)
+
+      pub begun-on : BegunIs n d p budget T T′ L (set (set L n d) (piecesAt + n) 0) (Next.On (n + 1) p′)
       begun-on = record { step = s; begins = G; is = rw e refl; list = rw e refl }
 
-pub ruleset beguns = (begun-asked, begun-off, begun-room, begun-on)
+pub ruleset beguns = (begun-asked, begun-off, begun-room, begun-piece-room, begun-on)
 
 -- ---- a turn
 
@@ -53,7 +57,7 @@ module _ {T B room : List ℕ} {o : Outcome} {L : List ℕ} {n : ℕ} {p : Progr
     (A : TurnAsked T B room o L n p budget trail text) where
   pub turn-refused : {number : ℕ} {place : DocAt} → o ≡ Outcome.Refused number place
       → TurnIs room o n p budget T T B B L L trail trail text text (Next.Ended (Step.Refused number place))
-  turn-refused e = record { is = rw e refl }
+  turn-refused e = record { is = rw e (record { is = refl; table = refl; bytes = refl; list = refl }) }
 
   module _ {d : ℕ} (e : o ≡ Outcome.Needs d) where
     pub needs-asked : BegunAsked T L n d p budget

@@ -4,6 +4,7 @@ use mathlib.Core.List.{List}
 use Prim.Native.Nat.{ℕ, _+_, _-_, _≤_, _<_}
 use lib.ListN.{length, getD, set}
 use Rattle.rules.specs.Sizes.{maxUnresolved}
+use Rattle.text_chars.specs.declared.DocAt.{DocAt}
 use Rattle.doc_items.specs.Room.{indexAt}
 use Rattle.eval_extents.specs.declared.Extent.{Extent}
 use Rattle.eval_sizes.specs.declared.Outcome.{Outcome}
@@ -12,9 +13,20 @@ use Rattle.eval_order.specs.declared.Progress.{Progress}
 use Rattle.eval_order.specs.declared.Step.{Step}
 use Rattle.eval_turns.specs.declared.Next.{Next}
 
+-- the list has room for all questions, and behind them for the piece of each
+abbrev pub listRoom : ℕ
+listRoom = 512
+
+abbrev pub piecesAt : ℕ
+piecesAt = 256
+
 -- the newest of n questions stands last
 abbrev pub newest : List ℕ → ℕ → ℕ
 newest L n = getD L (n - 1) 0
+
+-- its piece
+abbrev pub newestPiece : List ℕ → ℕ → ℕ
+newestPiece L n = getD L (piecesAt + (n - 1)) 0
 
 -- ---- an answer is laid
 
@@ -31,14 +43,15 @@ pub record LaidIs (n : ℕ) (s : Step) (r : Next) : Type 0 where
 pub record BegunAsked (T L : List ℕ) (n d : ℕ) (p : Progress) (budget : ℕ) : Type 0 where
   pub begins : BeginAsked T d
   pub few : n ≤ maxUnresolved
-  pub room : (T′ : List ℕ) (p′ : Progress) → BeginIs d p budget T T′ (Step.On p′) → n < length L
+  pub room : (T′ : List ℕ) (p′ : Progress) → BeginIs d p budget T T′ (Step.On p′) → piecesAt + n < length L
 
 abbrev pub begunNext : ℕ → Step → Next
 begunNext n (Step.On p) = Next.On (n + 1) p
 begunNext n (Step.Refused number place) = Next.Ended (Step.Refused number place)
 
+-- it has just begun: there is no piece yet
 abbrev pub begunList : ℕ → ℕ → List ℕ → Step → List ℕ
-begunList n d L (Step.On p) = set L n d
+begunList n d L (Step.On p) = set (set L n d) (piecesAt + n) 0
 begunList n d L (Step.Refused number place) = L
 
 pub record BegunIs (n d : ℕ) (p : Progress) (budget : ℕ) (T T′ L L′ : List ℕ) (r : Next) : Type 0 where
@@ -79,11 +92,17 @@ module _ (room : List ℕ) (n : ℕ) (p : Progress) (budget : ℕ) (T T′ B B�
     pub trails : trail′ ≡ trail
     pub texts : text′ ≡ text
 
+  pub record RefusedTurn (number : ℕ) (place : DocAt) : Type 0 where
+    pub is : r ≡ Next.Ended (Step.Refused number place)
+    pub table : T′ ≡ T
+    pub bytes : B′ ≡ B
+    pub list : L′ ≡ L
+
   abbrev pub TurnCase : Outcome → Type 0
   TurnCase (Outcome.Done e) = DoneTurn e
   TurnCase Outcome.Undefined = UndefinedTurn
   TurnCase (Outcome.Needs d) = NeedsTurn d
-  TurnCase (Outcome.Refused number place) = r ≡ Next.Ended (Step.Refused number place)
+  TurnCase (Outcome.Refused number place) = RefusedTurn number place
 
 pub record TurnIs (room : List ℕ) (o : Outcome) (n : ℕ) (p : Progress) (budget : ℕ) (T T′ B B′ L L′ trail trail′ text text′ : List ℕ) (r : Next) : Type 0 where
   pub is : TurnCase room n p budget T T′ B B′ L L′ trail trail′ text text′ r o

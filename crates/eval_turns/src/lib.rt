@@ -1,12 +1,20 @@
 // One turn of the order: what the newest question in the list came to is laid and it is taken out, or the one that it needs begins and is
 // added. Whatever it came to, the caller has it.
 // Computes: Jobs (orderOf), as theory_order's work
+use codes::limits;
 use doc_items::number_at;
 use eval_order::Progress;
 use eval_order::Step;
 use eval_sizes::Outcome;
 ghost use Prim.Native.Nat.{_<_};
 ghost use Rattle.eval_turns.specs.Contracts.{LaidIs, BegunAsked, BegunIs, TurnAsked, TurnIs, ItemIs};
+
+/// The list has the questions that have begun, the newest last, and behind them, for each, the item of the piece at which it goes on, 0 where it has
+/// just begun.
+pub const LIST: usize = 2 * limits::UNRESOLVED;
+
+/// Where the pieces begin.
+pub const PIECES: usize = limits::UNRESOLVED;
 
 /// After a turn so many questions are in the list, and it has come so far; or the list is empty, or there is a refusal.
 pub enum Next {
@@ -46,6 +54,7 @@ fn begun(
         Step::Refused { number, place } => Next::Ended(Step::Refused { number, place }),
         Step::On(next) => {
             list[n] = d as u16;
+            list[PIECES + n] = 0;
             Next::On {
                 count: n + 1,
                 at: next,

@@ -1,4 +1,5 @@
+mod Evaluated
 mod Standing
-mod Turns
 mod Questions
+mod Turns
 mod Working

@@ -33,6 +33,7 @@ fn resolution(
 {
     let mut stack = [0u16; eval_stack::WORK];
     let mut room = [0u8; limits::ROOM];
+    let mut list = [0u16; eval_turns::LIST];
     let start = Progress {
         used: RecAt(0),
         text: TextAt(0),
@@ -46,6 +47,7 @@ fn resolution(
         &mut room,
         trail,
         text,
+        &mut list,
         start,
         budget,
     ) {

@@ -144,7 +144,7 @@ abbrev pub top : Root → ℕ
 top root = heightOf (rootNode root) + 32
 
 module _ (strict : Bool) (N : ℕ) (root : Root) (env : Environment) (numbers : AllNode (InRange N) (rootNode root)) where
-  evaluate-ends : (ls : Layers) → AllLow strict N (top root) ls → Quiet strict N (evaluate root env ls)
+  pub evaluate-ends : (ls : Layers) → AllLow strict N (top root) ls → Quiet strict N (evaluate root env ls)
   unfolding heightOf valueOf
   evaluate-ends ls w = value-ends strict N (depthOf root env) (top root) (λ e. omega arith) ls w
 
@@ -158,7 +158,7 @@ module _ (strict : Bool) (N : ℕ) (root : Root) (env : Environment) (numbers : 
       go none = path-low strict N (top root) p (layer (written (rootNode root)) end) ((numbers, λ e. omega arith), tt)
       go (some rest) = path-low strict N (top root) rest (h .before) w
 
-  substitution-ends : (openness : Option Open) (x : Substitution) → HomeLow strict N (top root) openness → Quiet strict N (substitutionValue root env openness x)
+  pub substitution-ends : (openness : Option Open) (x : Substitution) → HomeLow strict N (top root) openness → Quiet strict N (substitutionValue root env openness x)
   unfolding substitutionValue
   substitution-ends openness x w =
       ends-bind (evaluate-ends (layersFor root openness (x .path)) (path-from openness (x .path) w)) (λ a _. environment-ends strict N env x a)

@@ -12,7 +12,7 @@ use Rattle.rules.specs.Bytes.{Text}
 use Rattle.rules.specs.Refusals.{Refusal, placed, nowhere}
 use Rattle.rules.specs.Environment.{Environment}
 use Rattle.rules.specs.Pieces.{scalarText}
-use Rattle.rules.specs.Tree.{string, Key, Substitution, object, Fields, Pieces, no-pieces, nodePiece, substituted, Root, fields, elements, rootNode, heightOf, highestPiece}
+use Rattle.rules.specs.Tree.{string, Key, Substitution, Node, object, Fields, Pieces, no-pieces, nodePiece, substituted, Root, fields, elements, rootNode, heightOf, highestPiece}
 use Rattle.rules.specs.Values.{Value, scalar, arrayOf, objectOf, Answer, joinValues, withinSize, mergeMembers}
 use Rattle.rules.specs.Layers.{Work, written, Layers, end, layer, named, deeper, walkPath, elementValues, nodeValue, valueOf}
 use Rattle.rules.specs.Unresolved.{Open, Unresolved, Openness, fieldOpenness, behind, forward, layersFor, dotted, orEnvironment, Join, blank, text, joinedArray, joinedObject, joinValue, joinNothing, joinAnswer, sized, joinPiece, depthOf, evaluate, substitutionValue, several, answerOf, rootValue}
@@ -331,6 +331,28 @@ module _ (x : Setting) (p : Prepared (x .document)) (nested : heightOf (rootNode
       ∙ answer-depth known (shallow-within known within) tree (x .environment)
       (depthOf tree (x .environment)) 65 (omega arith) (omega arith)
       (openIn known (u .openness)) (openness-low (u .openness) N (at .before)) (u .pieces) (omega arith))
+
+  -- its pieces alone
+  pub run-written : (n : Node) → heightOf n ≤ heightOf (rootNode tree)
+      → run known (nodeValue (evaluate tree (x .environment)) n) ≡ nodeIn known (valueIn known 65) n
+  unfolding heightOf
+  run-written n low =
+      run-node known (evaluate tree (x .environment)) (valueIn known (depthOf tree (x .environment))) (run-evaluate known tree (x .environment)) n
+      ∙ node-depth known (shallow-within known within) (top tree) (depthOf tree (x .environment)) 65 (omega arith) (omega arith) n (omega arith)
+
+  pub run-substituted : (b : ℕ) (u : Unresolved) → getElem? (x .document .unresolved) b ≡ some u → (y : Substitution)
+      → run known (substitutionValue tree (x .environment) (u .openness) y)
+      ≡ substitutionIn known tree 65 (x .environment) (openIn known (u .openness)) y
+  unfolding heightOf
+  run-substituted b u e y =
+      let N = countOf x in
+      let all = all-listed true N tree (numbers-below (x .document) p) in
+      let listed = subst (λ l. Each (Listed true N (top tree)) l) (sym (p .listed)) all in
+      let at = each-at (Listed true N (top tree)) (x .document .unresolved) listed b u e in
+      run-substitution known tree (x .environment) (u .openness) y
+      ∙ substitution-depth known (shallow-within known within) tree (x .environment)
+      (depthOf tree (x .environment)) 65 (omega arith) (omega arith)
+      (openIn known (u .openness)) y (openness-low (u .openness) N (at .before))
 
   pub run-root-of : run known (rootOf x) ≡ rootIn known tree 65
   unfolding heightOf

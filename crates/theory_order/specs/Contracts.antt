@@ -20,7 +20,7 @@ use Rattle.theory.specs.Reach.{Each, InRange}
 use Rattle.theory.specs.SettledAnswers.{rootIn}
 use Rattle.theory_order.specs.Walks.{Ended, Kept, finish}
 use Rattle.theory_order.specs.Ready.{Worker, ready}
-use Rattle.theory_order.specs.Turns.{turnsLeft, work, remaining}
+use Rattle.theory_order.specs.Turns.{turnsLeft, work}
 use Rattle.theory_order.specs.Running.{Running}
 use Rattle.theory_order.specs.Settle.{Settler, keyIn}
 use Rattle.theory_order.specs.Fitting.{Plain, Object}
@@ -77,12 +77,10 @@ module _ (t : Task) where
   abbrev pub workC : Worker Refusal Answer
   workC = work (rulesOf t) (t .budget) (questionsOf t)
 
-  -- Its loop. The invariant is `WorkAt`: `RunningOf stack Sᵢ nᵢ` and `remainingOf stack Sᵢ nᵢ ≡ workC b S n`; the measure is `turnsLeftOf stack Sᵢ`.
-  -- Before it `work-begins` or `work-barred`; each turn ends by `turn-lays`, `turn-full`, `turn-refuses`, `turn-begins` or `turn-barred`;
-  -- behind it `work-done`.
-  abbrev pub remainingOf : List ℕ → Trail Answer → ℕ → Ended Refusal Answer
-  remainingOf = remaining (rulesOf t) (t .budget) (questionsOf t)
-
+  -- Its loop, with the questions that have begun, and for each what its further pieces need. The invariant is `WorkAt` (module WorkLaws): `RunningOf`
+  -- of the questions, and what remains by needs first is `workC b S n`; the measure is `turnsLeftOf stack Sᵢ`. Before it `work-begins` or
+  -- `work-barred`; each turn ends by `turn-lays`, `turn-full`, `turn-refuses`, `turn-begins` or `turn-barred`; behind it `work-done`. A refusal that
+  -- ends a turn is revised by the questions that have begun, the oldest first (`firstIn`).
   abbrev pub RunningOf : List ℕ → Trail Answer → ℕ → Type 0
   RunningOf = Running (rulesOf t) (t .budget) (questionsOf t)
 

@@ -5,7 +5,9 @@ pub mod Walks
 pub mod Ready
 pub mod Turns
 pub mod Running
--- of the rules: settling by depth, that it ends as the rules' evaluation does, layers that fit, one depth for every document
+-- of the rules: what pieces need before they are joined; settling by depth, that it ends as the rules' evaluation does, layers that fit, one depth for every document
+pub mod Skeletons
+pub mod Looking
 pub mod Settle
 pub mod Settling
 pub mod Fitting

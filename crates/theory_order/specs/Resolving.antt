@@ -26,11 +26,11 @@ use Rattle.theory.specs.BothJobs.{trailFits-intro}
 use Rattle.rules.specs.Settled.{no, Settled, push, pushNode, pushLayer, pushAll, deeperIn, deeperOf, gatherOf}
 use Rattle.theory_order.specs.Walks.{proceed}
 use Rattle.theory_order.specs.Ready.{Working, unanswered, work-lowers}
-use Rattle.theory_order.specs.Turns.{begin, Stacked, remaining-start, remaining-turn, by-turns}
+use Rattle.theory_order.specs.Turns.{by-turns}
 use Rattle.theory_order.specs.Settle.{keyIn}
 use Rattle.theory_order.specs.Fitting.{Proper, Object, Fit, FitObject, FitCounted}
 use Rattle.theory_order.specs.Levels.{key-round, key-missing, key-ready}
-use Rattle.theory_order.specs.Contracts.{Task, questionsOf, rulesOf, Numbered, NumberedObject, NumberedCounted, KeptOf, workC, remainingOf, barOf, readyC}
+use Rattle.theory_order.specs.Contracts.{Task, questionsOf, rulesOf, Numbered, NumberedObject, NumberedCounted, KeptOf, workC, readyC}
 
 -- ---- `take`: objects stand as they are
 
@@ -94,24 +94,6 @@ module _ (t : Task) (p : Prepared (t .setting .document)) where
   )
 
   -- ---- `work`
-
-  -- before the loop: 10, 12, or the question begins
-  pub work-start : (b : ℕ) (S : Trail Answer) (n : ℕ) → b < questionsOf t → lookup S b ≡ none
-      → workC t b S n ≡ begin (barOf t [] n b) n (remainingOf t (b ∷ []) S)
-  work-start b S n l new = workingOf .works b S n l new ∙ sym (remaining-start (rulesOf t) (t .budget) (questionsOf t) b S n l new)
-
-  -- one turn: the newest is answered and laid (14 where it does not fit), or one that it misses is barred or begins
-  pub work-turn : (b : ℕ) (bs : List ℕ) → Stacked (questionsOf t) (b ∷ bs) → (S : Trail Answer) (n : ℕ)
-      → remainingOf t (b ∷ bs) S n
-      ≡ proceed (run (lookup S) (ruleOf (t .setting) b)) (λ a. after (lay (rulesOf t) b (answer a S n)) (λ _ S′ n′. remainingOf t bs S′ n′))
-      (λ q. begin (barOf t (b ∷ bs) n q) n (remainingOf t (q ∷ b ∷ bs) S))
-  unfolding orderOf
-  work-turn b bs s S n =
-      remaining-turn (rulesOf t) (t .budget) (questionsOf t) (closed (t .setting) p (t .trailRoom) (t .textRoom)) b bs s S n
-
-  -- the end of the loop
-  pub work-end : (S : Trail Answer) (n : ℕ) → remainingOf t [] S n ≡ answer tt S n
-  work-end S n = refl
 
   -- what the whole call keeps
   pub work-keeps : (b : ℕ) (S : Trail Answer) (n : ℕ) → b < questionsOf t → lookup S b ≡ none → KeptOf t S n

@@ -1,5 +1,7 @@
 //! The exported jobs, lengths and profiles as Rust calls them, and what the tests hold them against.
 
+pub mod both;
+pub mod chains;
 pub mod documents;
 pub mod jobs;
 pub mod lengths;

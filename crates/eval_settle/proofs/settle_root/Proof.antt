@@ -9,7 +9,8 @@ settle-root-spec =
     tie.close
     (tie.spec
     (λ c κs. search roots)
-    (λ c κs. search roots)
+    (λ c κs. (search roots, search needs))
+    (λ c. search needs)
     (λ c. search needs)
     (λ c. search needs)
     (λ c. search needs)

@@ -19,4 +19,7 @@ begun-spec =
     (λ c. search beguns)
     (λ c. search needs)
     (λ c. search needs)
+    (λ c. search beguns)
+    (λ c. search needs)
+    (λ c. search needs)
     (λ c. search beguns))

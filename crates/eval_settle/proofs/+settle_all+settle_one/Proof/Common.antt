@@ -13,27 +13,27 @@ use Rattle.eval_work.proofs.work.Reads as work-reads
 
 -- what is left to show, a declaration for each need
 
-abbrev pub μ-settle-all : Measures 7 settle-all-kinds.ps ℕ
-μ-settle-all κs a = 2 * a .1 .1 .1 .1 .1 .1 .1 .1 .1 .1 .0 + 1
+abbrev pub μ-settle-all : Measures 8 settle-all-kinds.ps ℕ
+μ-settle-all κs a = 2 * a .1 .1 .1 .1 .1 .1 .1 .1 .1 .1 .1 .0 + 1
 
-abbrev pub μ-settle-one : Measures 7 settle-one-kinds.ps ℕ
-μ-settle-one κs a = 2 * a .1 .1 .1 .1 .1 .1 .1 .1 .1 .1 .1 .0 + 0
+abbrev pub μ-settle-one : Measures 8 settle-one-kinds.ps ℕ
+μ-settle-one κs a = 2 * a .1 .1 .1 .1 .1 .1 .1 .1 .1 .1 .1 .1 .0 + 0
 
-abbrev pub settle-all-at : ℕ → In 7 settle-all-kinds.ps
+abbrev pub settle-all-at : ℕ → In 8 settle-all-kinds.ps
 settle-all-at t =
-    and 7 settle-all-kinds.ps (is 7 settle-all-kinds.ps μ-settle-all t) settle-all.Pre
+    and 8 settle-all-kinds.ps (is 8 settle-all-kinds.ps μ-settle-all t) settle-all.Pre
 
-abbrev pub settle-all-below : ℕ → In 7 settle-all-kinds.ps
+abbrev pub settle-all-below : ℕ → In 8 settle-all-kinds.ps
 settle-all-below t =
-    and 7 settle-all-kinds.ps (falls 7 settle-all-kinds.ps _<_ μ-settle-all t) settle-all.Pre
+    and 8 settle-all-kinds.ps (falls 8 settle-all-kinds.ps _<_ μ-settle-all t) settle-all.Pre
 
-abbrev pub settle-one-at : ℕ → In 7 settle-one-kinds.ps
+abbrev pub settle-one-at : ℕ → In 8 settle-one-kinds.ps
 settle-one-at t =
-    and 7 settle-one-kinds.ps (is 7 settle-one-kinds.ps μ-settle-one t) settle-one.Pre
+    and 8 settle-one-kinds.ps (is 8 settle-one-kinds.ps μ-settle-one t) settle-one.Pre
 
-abbrev pub settle-one-below : ℕ → In 7 settle-one-kinds.ps
+abbrev pub settle-one-below : ℕ → In 8 settle-one-kinds.ps
 settle-one-below t =
-    and 7 settle-one-kinds.ps (falls 7 settle-one-kinds.ps _<_ μ-settle-one t) settle-one.Pre
+    and 8 settle-one-kinds.ps (falls 8 settle-one-kinds.ps _<_ μ-settle-one t) settle-one.Pre
 
 abbrev pub settle-all-k : ℕ → settle-all-lts.Claims
 settle-all-k t = (need-at-reads.Asked, need-at-reads.Learnt, settle-one-below t, settle-one.Post)

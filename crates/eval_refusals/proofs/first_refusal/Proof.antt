@@ -1,0 +1,44 @@
+-- laws: scans
+use Rattle.eval_refusals.proofs.Scanning.{LoopInv, scans}
+use Prim.Native.Nat.{_-_}
+use borrow.Author.Needs.{needs}
+use Rattle.eval_refusals.proofs.first_refusal.Statement.{statement}
+use Rattle.eval_refusals.proofs.first_refusal.Tie as tie
+
+abbrev Inv-loop : tie.InvT-loop
+Inv-loop table bytes₀ env stack₀ base room₀ list n number place i₀ bytes stack room i = LoopInv table env list base n stack₀ bytes₀ i stack bytes room
+
+abbrev μ-loop : tie.MeasureT-loop
+μ-loop table bytes₀ env stack₀ base room₀ list n number place i₀ bytes stack room i = n - i
+
+pub first-refusal-spec : {M : Type 1} → statement M
+first-refusal-spec =
+    tie.close
+    (tie.spec
+    Inv-loop
+    μ-loop
+    (λ c. search scans)
+    (λ c. search needs)
+    (λ c κs. search needs)
+    (λ c κs. search scans)
+    (λ c. search needs)
+    (λ c. search needs)
+    (λ c. search needs)
+    (λ c. search needs)
+    (λ c. search scans)
+    (λ c. search needs)
+    (λ c. search needs)
+    (λ c. search scans)
+    (λ c. search scans)
+    (λ c. search needs)
+    (λ c. search needs)
+    (λ c. search scans)
+    (λ c. search scans)
+    (λ c. search needs)
+    (λ c. search needs)
+    (λ c. search scans)
+    (λ c. search scans)
+    (λ c. search needs)
+    (λ c. search needs)
+    (λ c. search needs)
+    (λ c. search scans))
