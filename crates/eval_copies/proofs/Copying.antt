@@ -1,10 +1,10 @@
 -- Laws of copying: of one record, and of the cycle.
-use mathlib.Core.Path.{_≡_, refl, sym, ap, _∙_}
+use mathlib.Core.Path.{_≡_, refl, sym, ap, subst, _∙_}
 use Prim.Native.Nat.{ℕ, zero, suc, _+_, _-_, _≤_, _<_, max}
 use mathlib.Core.Bool.{Bool, true, false}
 use mathlib.Core.List.{List, [], _∷_, _++_, append-assoc}
 use native.Mathlib.Omega.{arith}
-use lib.ListN.{length, getD}
+use lib.ListN.{length, getD, take, drop}
 use lib.Dec.{eqb}
 use Rattle.rules.specs.Sheet.{two}
 use Rattle.sheet_kept.specs.InTurn.{Word, extent}
@@ -18,8 +18,9 @@ use Rattle.eval_records.specs.Model.{Act, act, then, under, keyC, copyK, plainC
 use Rattle.eval_records.specs.Contracts.{Span, CopiedIs, HeadIs}
 use Rattle.eval_records.specs.declared.Copied.{Copied}
 use Rattle.eval_copies.specs.Model.{copyM, copyMs, copyBy, copyH, copyV}
-use Rattle.eval_copies.specs.Contracts.{ValueIs, HeldIs, MembersIs, MemberIs, DeeperIs, DeepestIs}
-use Rattle.eval_copies.specs.Steps.{held-step, members-step, members-cut}
+use Rattle.eval_copies.specs.Contracts.{ValueIs, HeldIs, MembersIs, MemberIs, DeeperIs}
+use Rattle.eval_run_copies.specs.Contracts.{RunOf, RunDone}
+use Rattle.eval_copies.specs.Steps.{held-step, members-step, members-run, members-cut}
 
 -- ---- the cycle
 
@@ -112,6 +113,10 @@ then-assoc f g h =
 abbrev acted : List ℕ → List Word → ℕ → ℕ → Act
 acted xs ws next deep = record { xs = xs; ws = ws; next = next; deep = deep }
 
+-- behind others that are so deep
+abbrev behind : ℕ → Copied → Copied
+behind d m = record { next = m .next; out = m .out; deep = max d (m .deep) }
+
 -- the members so far, and those still to come
 pub record Copying (n : ℕ) (T s : List ℕ) (tb : ℕ) (keyed : Bool) (count : ℕ) (c : Copied) (b : List ℕ) (d : Copied) (a : List ℕ) (left : ℕ) : Type 0 where
   pub xs : List ℕ
@@ -148,52 +153,88 @@ module _ {n : ℕ} {T s : List ℕ} {tb : ℕ} {keyed : Bool} {count : ℕ} {c :
     pub copying-cut : length s ≤ d .next .0 → MembersIs n T s tb keyed count c d b a
     copying-cut h = stopped (members-cut (λ q u. copyV n T s tb q u) T s keyed left (d .next .0) (d .out .text .0) h)
 
-    pub copying-step : {m r : Copied} {a′ : List ℕ} → 0 < left → d .next .0 < length s → MemberIs n T s tb keyed d m a a′ → DeepestIs d m r → length a′ ≡ length a
-        → Copying n T s tb keyed count c b r a′ (left - 1)
-    copying-step {m} {r} {a′} h l w J k =
+    -- a run more
+    with-run : {k : ℕ} {r : Copied} {a′ : List ℕ} → RunOf s keyed (d .next .0) left k → Wrote (take k (drop (d .next .0) s)) [] (d .out) (r .out) a a′
+        → r .next .0 ≡ d .next .0 + k → r .deep ≡ d .deep → Span s (r .next .0) (r .out) → r .next .0 ≤ length s + 10 → length a′ ≡ length a
+        → Copying n T s tb keyed count c b r a′ (left - k)
+    unfolding extent
+    with-run {k} {r} {a′} u w y z g v j =
+        let p = d .next .0 in
+        let t = d .out .text .0 in
+        let A = acted (I .xs) (I .ws) p (d .deep) in
+        let xs = take k (drop p s) in
+        let rest : ℕ → ℕ → Act = λ q v. copyMs (λ q u. copyV n T s tb q u) T s keyed (left - k) q v in
+        let x : r .out .text .0 ≡ t = omega (arith, w .text) in
+        let e : max (d .deep) 0 ≡ r .deep = omega arith in
+        record {
+          xs = I .xs ++ xs;
+          ws = I .ws ++ [];
+          done = wrote-then (I .done) w;
+          rest =
+              ap (λ (v : ℕ). then (acted (I .xs ++ xs) (I .ws ++ []) (r .next .0) (r .deep)) (rest (r .next .0) v)) x
+              ∙ ap (λ (q : ℕ). then (acted (I .xs ++ xs) (I .ws ++ []) q (r .deep)) (rest q t)) y
+              ∙ ap (λ (m : ℕ). then (acted (I .xs ++ xs) (I .ws ++ []) (p + k) m) (rest (p + k) t)) (sym e)
+              ∙ then-assoc A (act xs [] (p + k)) (rest (p + k) t)
+              ∙ ap (then A) (sym (members-run n T s tb keyed k left p t (u .few) (u .lies .inside) (u .bare) (u .plain)))
+              ∙ I .rest;
+          span = g;
+          far = v;
+          len = j ∙ I .len;
+          low = omega (arith, I .low);
+        }
+
+    -- one member more, as deep as the deepest so far
+    one-step : {r : Copied} {a′ : List ℕ} → 0 < left → d .next .0 < length s → MemberIs n T s tb keyed d r a a′ → length a′ ≡ length a
+        → Copying n T s tb keyed count c b (behind (d .deep) r) a′ (left - 1)
+    one-step {r} {a′} h l w k =
         let val : ℕ → ℕ → Act = λ q u. copyV n T s tb q u in
         let t = d .out .text .0 in
         let M = copyM val T s keyed (d .next .0) t in
         let A = acted (I .xs) (I .ws) (d .next .0) (d .deep) in
         let e = w .is in
-        let g : m .deep ≡ M .deep = e .deep in
-        let f : r .deep ≡ max (d .deep) (M .deep) = omega (arith, J .deep) in
+        let f : max (d .deep) (r .deep) ≡ max (d .deep) (M .deep) = ap (max (d .deep)) (e .deep) in
         let R = copyMs val T s keyed (left - 1) (r .next .0) (r .out .text .0) in
         let y : R ≡ copyMs val T s keyed (left - 1) (M .next) (t + extent (M .ws)) =
-        ap (λ (q : ℕ). copyMs val T s keyed (left - 1) q (r .out .text .0)) (J .next ∙ e .next)
-        ∙ ap (λ (q : ℕ). copyMs val T s keyed (left - 1) (M .next) q) (ap (λ (q : Out). q .text .0) (J .out) ∙ e .is .text) in
+        ap (λ (q : ℕ). copyMs val T s keyed (left - 1) q (r .out .text .0)) (e .next)
+        ∙ ap (λ (q : ℕ). copyMs val T s keyed (left - 1) (M .next) q) (e .is .text) in
         record {
           xs = I .xs ++ M .xs;
           ws = I .ws ++ M .ws;
-          done = rw (J .out) (wrote-then (I .done) (e .is));
+          done = wrote-then (I .done) (e .is);
           rest =
-              ap (λ (i : ℕ). then (acted (I .xs ++ M .xs) (I .ws ++ M .ws) (M .next) i) R) f
+              ap (λ (q : ℕ). then (acted (I .xs ++ M .xs) (I .ws ++ M .ws) q (max (d .deep) (r .deep))) R) (e .next)
+              ∙ ap (λ (i : ℕ). then (acted (I .xs ++ M .xs) (I .ws ++ M .ws) (M .next) i) R) f
               ∙ then-assoc A M R
               ∙ ap (λ (q : Act). then A (then M q)) y
               ∙ ap (then A) (sym (members-step val T s keyed left (d .next .0) t h l))
               ∙ I .rest;
-          span = rw (J .next, J .out) (e .span);
-          far = omega (arith, J .next, e .far);
+          span = e .span;
+          far = e .far;
           len = k ∙ I .len;
-          low = omega (arith, J .deep, I .low, w .low);
+          low = omega (arith, I .low, w .low);
         }
 
-    pub copying-less : 0 < left → left - 1 < left
-    copying-less h = omega arith
+  module _ {d : Copied} {a : List ℕ} {left : ℕ} (I : Copying n T s tb keyed count c b d a left) (h : 0 < left) {r : Copied} {a′ : List ℕ} where
+    -- a member, and a run behind it
+    pub copying-step : {r′ : Copied} {a″ : List ℕ} → d .next .0 < length s → MemberIs n T s tb keyed d r a a′ → length a′ ≡ length a
+        → RunDone s keyed (left - 1) (d .deep) r r′ a′ a″ → length a″ ≡ length a′ → Copying n T s tb keyed count c b r′ a″ (left - 1 - (r′ .next .0 - r .next .0))
+    copying-step {r′} {a″} l w e u f =
+        let v = u .is in
+        let z : u .n ≡ r′ .next .0 - r .next .0 = omega (arith, v .next) in
+        subst (λ (k : ℕ). Copying n T s tb keyed count c b r′ a″ (left - 1 - k)) z
+        (with-run (one-step I h l w e) (u .of) (v .is) (v .next) (v .deep) (v .span) (v .far) f)
 
-pub ruleset members-laws = (copying-start, copying-end, copying-cut, copying-step)
+    pub run-within : {r′ : Copied} {a″ : List ℕ} → RunDone s keyed (left - 1) (d .deep) r r′ a′ a″ → r′ .next .0 - r .next .0 ≤ left - 1
+    run-within u = omega (arith, u .is .next, u .of .few)
+
+    pub run-less : {r′ : Copied} {a″ : List ℕ} → RunDone s keyed (left - 1) (d .deep) r r′ a′ a″ → left - 1 - (r′ .next .0 - r .next .0) < left
+    run-less u = omega arith
+
+pub ruleset members-laws = (copying-start, copying-end, copying-cut, copying-step, run-within, run-less)
 
 pub ruleset value-laws = (value-plain, value-name, value-word, value-head)
 
 pub ruleset held-laws = (held-none, held-members)
 
-pub deepest-later : {d m : Copied} → d .deep < m .deep → DeepestIs d m (record { next = m .next; out = m .out; deep = m .deep })
-deepest-later h = record { next = refl; out = refl; deep = omega arith }
-
-pub deepest-earlier : {d m : Copied} → m .deep ≤ d .deep → DeepestIs d m (record { next = m .next; out = m .out; deep = d .deep })
-deepest-earlier h = record { next = refl; out = refl; deep = omega arith }
-
 pub deeper-is : {m : Copied} → DeeperIs m (record { next = m .next; out = m .out; deep = m .deep + 1 })
 deeper-is = record { next = refl; out = refl; deep = refl }
-
-pub ruleset deepest-laws = (deepest-later, deepest-earlier)

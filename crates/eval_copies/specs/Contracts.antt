@@ -1,6 +1,6 @@
 -- What the functions promise: by the model for any bytes, and of a value that stands there.
 use mathlib.Core.Path.{_≡_}
-use Prim.Native.Nat.{ℕ, _+_, _≤_, max}
+use Prim.Native.Nat.{ℕ, _+_, _≤_}
 use mathlib.Core.Bool.{Bool}
 use mathlib.Core.List.{List}
 use lib.ListN.{length}
@@ -42,11 +42,6 @@ pub record DeeperIs (m r : Copied) : Type 0 where
   pub next : r .next .0 ≡ m .next .0
   pub out : r .out ≡ m .out
   pub deep : r .deep ≡ m .deep + 1
-
-pub record DeepestIs (d m r : Copied) : Type 0 where
-  pub next : r .next .0 ≡ m .next .0
-  pub out : r .out ≡ m .out
-  pub deep : r .deep ≡ max (d .deep) (m .deep)
 
 pub record CopyAsked (s : List ℕ) (src : Source) (at : ℕ) (o : Out) (b : List ℕ) : Type 0 where
   pub room : Room b

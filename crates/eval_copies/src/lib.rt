@@ -6,6 +6,7 @@ use eval_record_copies::copy_key;
 use eval_record_copies::copy_plain;
 use eval_record_copies::copy_word;
 use eval_records::Copied;
+use eval_run_copies::copy_run;
 use eval_writer::Out;
 use sheet_forms::HEAD;
 use sheet_forms::Shape;
@@ -18,7 +19,7 @@ ghost use Prim.Native.Nat.{_+_, _≤_};
 ghost use lib.ListN.{length};
 ghost use Rattle.eval_writer.specs.Contracts.{Room};
 ghost use Rattle.eval_records.specs.Contracts.{mostBytes, Span};
-ghost use Rattle.eval_copies.specs.Contracts.{mostLevels, DeeperIs, DeepestIs};
+ghost use Rattle.eval_copies.specs.Contracts.{mostLevels, DeeperIs};
 ghost use Rattle.eval_copies.specs.Contracts.{ValueIs, HeldIs, MembersIs, MemberIs};
 
 // ---- depth
@@ -34,26 +35,6 @@ fn one_deeper(m: Copied) -> Copied
         next,
         out,
         deep: m.deep + 1,
-    }
-}
-
-// The place of the later one, the depth of the deeper one.
-fn deepest(d: Copied, m: Copied) -> Copied
-    ensures { λ r. ⌜ DeepestIs d m r ⌝ }
-{
-    let next = m.next;
-    let out = m.out;
-    if d.deep < m.deep {
-        return Copied {
-            next,
-            out,
-            deep: m.deep,
-        };
-    }
-    Copied {
-        next,
-        out,
-        deep: d.deep,
     }
 }
 
@@ -132,7 +113,8 @@ fn copy_held(
     one_deeper(m)
 }
 
-/// So many members, one behind the other. Each takes a byte at least, so however many are promised, the bytes' end is soon met.
+/// So many members, one behind the other; elements of one byte each in runs. Each takes a byte at least, so however many are promised, the bytes'
+/// end is soon met.
 pub fn copy_members(
     room: &mut [u8],
     table: &[u16],
@@ -156,8 +138,11 @@ pub fn copy_members(
             return d;
         }
         let m = copy_member(room, table, bytes, texts, keyed, d, levels);
-        d = deepest(d, m);
         left -= 1;
+        let from = m.next;
+        d = copy_run(room, bytes, keyed, d.deep, m, left);
+        let to = d.next;
+        left -= to.0 - from.0;
     }
     d
 }

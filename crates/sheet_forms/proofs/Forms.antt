@@ -1,15 +1,18 @@
 -- Laws of the functions: what each answer is, by what its place in the code knows.
-use mathlib.Core.Path.{_≡_, refl, sym, ap, _∙_}
+use mathlib.Core.Path.{_≡_, refl, sym, ap, subst, _∙_}
 use mathlib.Core.Bool.{Bool, true, false, cond}
 use mathlib.Core.List.{List}
 use Prim.Native.Nat.{ℕ, zero, suc, _+_, _-_, _*_, _/_, _%_, _≤_, _<_}
 use native.Mathlib.Omega.{arith}
+use mir.Syntax.{w64}
+use mir.Val.{Fits}
 use lib.ListN.{length, getD, List·getD-eq-default}
-use lib.Dec.{eqb}
-use borrow.Author.Tests.{lt-ltb, le-ltb, le-leb, lt-leb, eq-eqb, ne-eqb}
+use lib.Dec.{ltb, eqb}
+use borrow.Author.Tests.{lt-ltb, le-ltb, le-leb, lt-leb, eq-eqb, ne-eqb, ltb-true, ltb-false}
+use Rattle.sheet_runs.specs.Contracts.{RunIs}
 use Rattle.sheet_forms.specs.Model.{shapeOf, endBy, endC, memberOf, countN, countC, membersC, textC, headC, countedC, keyC, recordBy, recordC}
 use Rattle.sheet_forms.specs.Contracts.{Wide, ShapeIs, PairIs, EndIs, CountIs, TextIs, HeadIs, CountedIs, KeyIs, RecordIs, SizeIs, TextLenIs}
-use Rattle.sheet_forms.specs.Ends.{count-end, count-step}
+use Rattle.sheet_forms.specs.Ends.{count-end, count-step, count-run}
 use Rattle.sheet_forms.specs.declared.Form.{Form}
 use Rattle.sheet_forms.specs.declared.Shape.{Shape}
 use Rattle.sheet_forms.specs.declared.Record.{Record}
@@ -93,14 +96,30 @@ module _ {s : List ℕ} {from end : ℕ} where
     pub counting-end : end ≤ p → CountIs s from end n
     counting-end l = record { is = omega (arith, I .is, count-end s end (I .fuel) p l) }
 
+    -- a run more
+    with-run : {q : ℕ} → RunIs s p end q → Counting s from end q (n + (q - p))
+    with-run {q} u = go (ltb p q) refl
+      where
+        go : (t : Bool) → ltb p q ≡ t → Counting s from end q (n + (q - p))
+        go true e =
+            let l = ltb-true p q e in
+            let h = u .high l in
+            let k = q - p in
+            let f : p + k ≡ q = omega arith in
+            let w = I .fuel in
+            let g : countN w s end p ≡ k + countN (w - k) s end q =
+            count-run s end k w p (omega (arith, I .enough)) (omega arith) (λ i x y. u .plain i x (omega arith)) ∙ ap (λ (j : ℕ). k + countN (w - k) s end j) f in
+            record { fuel = w - k; enough = omega (arith, I .enough); is = omega (arith, I .is); few = omega (arith, I .few) }
+        go false e =
+            let z : p ≡ q = omega (arith, ltb-false p q e, u .low) in
+            let y : n ≡ n + (q - p) = omega arith in
+            subst (λ (m : ℕ). Counting s from end q m) y (subst (λ (j : ℕ). Counting s from end j n) z I)
+
     pub counting-near : p < end → end ≤ 1099511627776 → n ≤ 1099511627776
     counting-near l m = omega (arith, I .few)
 
-    pub counting-less : p < end → {q : ℕ} → EndIs s p q → end - q < end - p
-    counting-less l e = omega (arith, e .low)
-
-    pub counting-step : {b m q : ℕ} → p < end → b ≡ getD s p 0 → m ≡ n + memberOf b → EndIs s p q → Counting s from end q m
-    counting-step {b} {m} {q} l e f g = go (I .fuel) (I .enough) (I .is)
+    one-step : {b m q : ℕ} → p < end → b ≡ getD s p 0 → m ≡ n + memberOf b → EndIs s p q → Counting s from end q m
+    one-step {b} {m} {q} l e f g = go (I .fuel) (I .enough) (I .is)
       where
         small : (c : ℕ) → memberOf c ≤ 1
         small c = go (eqb c 8)
@@ -116,7 +135,22 @@ module _ {s : List ℕ} {from end : ℕ} where
             count-step s end w p q (memberOf b) (countN w s end q) l (ap memberOf (sym e)) (sym (g .is)) refl in
             record { fuel = w; enough = omega (arith, g .low); is = omega arith; few = omega (arith, g .low, I .few, small b) }
 
-pub ruleset count-laws = (counting-start, counting-end, counting-near, counting-less, counting-step)
+  module _ {p n : ℕ} (I : Counting s from end p n) (l : p < end) {q r : ℕ} (g : EndIs s p q) (u : RunIs s q end r) where
+    pub counting-less : end - r < end - p
+    counting-less = omega (arith, g .low, u .low)
+
+    -- a record, and a run behind it
+    pub counting-step : {b m : ℕ} → b ≡ getD s p 0 → m ≡ n + memberOf b → Counting s from end r (m + (r - q))
+    counting-step e f = with-run (one-step I l e f g) u
+
+    pub counting-fits : {b m : ℕ} → b ≡ getD s p 0 → m ≡ n + memberOf b → end ≤ 1099511627776 → Fits w64 (m + (r - q))
+    counting-fits e f h = record { fits = omega (arith, counting-step e f .few, reach (ltb q r) refl, g .high) }
+      where
+        reach : (t : Bool) → ltb q r ≡ t → r ≤ 1099511627776 + q
+        reach true z = omega (arith, u .high (ltb-true q r z))
+        reach false z = omega (arith, ltb-false q r z)
+
+pub ruleset count-laws = (counting-start, counting-end, counting-near, counting-less, counting-step, counting-fits)
 
 pub members-are : {s : List ℕ} {p e n : ℕ} → EndIs s p e → CountIs s (p + 3) e n → n ≡ membersC s p
 unfolding membersC

@@ -1,12 +1,13 @@
 -- Where a value as kept ends, and how many members it has: both by what its record says and by steps from member to member.
 use mathlib.Core.Path.{_≡_, refl, sym, ap, _∙_}
-use Prim.Native.Nat.{ℕ, zero, suc, _+_, _-_, _*_, _/_, _%_, _≤_, _<_}
-use mathlib.Core.List.{List, [], _∷_, _++_, append-assoc}
+use Prim.Native.Nat.{ℕ, zero, suc, _+_, _-_, _/_, _%_, _≤_, _<_}
+use mathlib.Core.List.{List, _∷_, _++_, append-assoc}
 use mathlib.Core.Bool.{true, false}
 use native.Mathlib.Omega.{arith}
 use lib.ListN.{length, getD, drop, length-append}
 use lib.Seq.{getD-drop, drop-drop, drop-append-seam}
-use borrow.Author.Tests.{le-leb, lt-leb}
+use borrow.Author.Tests.{lt-ltb, le-leb, lt-leb, ne-eqb}
+use Rattle.sheet_runs.specs.Contracts.{AllPlain}
 use Rattle.rules.specs.Bytes.{Text}
 use Rattle.rules.specs.Tree.{Scalar, null, boolean, number, string}
 use Rattle.rules.specs.Values.{valueRecordSizes, memberRecordSizes, textSize}
@@ -103,6 +104,28 @@ module _ (s : List ℕ) (end : ℕ) where
   pub count-step : (n p q c m : ℕ) → p < end → memberOf (getD s p 0) ≡ c → endC s p ≡ q → countN n s end q ≡ m → countN (suc n) s end p ≡ c + m
   unfolding countN
   count-step n p q c m l e f g = rw (lt-leb end p l, e, f, g)
+
+  -- a run of records of one byte each
+  pub count-run : (k w p : ℕ) → k ≤ w → p + k ≤ end → AllPlain s p (p + k) → countN w s end p ≡ k + countN (w - k) s end (p + k)
+  unfolding shapeOf
+  count-run zero w p l h a =
+      let e : w ≡ w - 0 = omega arith in
+      let f : p ≡ p + 0 = omega arith in
+      ap (λ (v : ℕ). countN v s end p) e ∙ ap (λ (q : ℕ). countN (w - 0) s end q) f ∙ omega arith
+  count-run (suc k) zero p l h a = absurd (omega arith)
+  count-run (suc k) (suc w) p l h a =
+      let b = getD s p 0 in
+      let z : b < 4 = a p (omega arith) (omega arith) in
+      let f : suc w - suc k ≡ w - k = omega arith in
+      let g : suc p + k ≡ p + suc k = omega arith in
+      let i : p + 1 ≡ suc p = omega arith in
+      let ih : countN w s end (suc p) ≡ k + countN (w - k) s end (suc p + k) =
+      count-run k w (suc p) (omega arith) (omega arith) (λ j m n. a j (omega arith) (omega arith)) in
+      count-step w p (suc p) 1 (k + countN (w - k) s end (suc p + k)) (omega arith) (rw (ne-eqb b 8 (λ e. omega arith)))
+      (end-by s p b Shape.Plain refl (rw (lt-ltb b 4 z)) ∙ i) ih
+      ∙ ap (λ (v : ℕ). 1 + (k + countN v s end (suc p + k))) (sym f)
+      ∙ ap (λ (q : ℕ). 1 + (k + countN (suc w - suc k) s end q)) g
+      ∙ omega arith
 
   pub count-all : (key : ℕ → Text) (vs : Helds) (n p u : ℕ) (rest : List ℕ) → drop p s ≡ keptAll key u vs ++ rest → end ≡ p + length (keptAll key u vs)
       → length (keptAll key u vs) < 65536 → end - p ≤ n → countN n s end p ≡ countHelds vs

@@ -2,6 +2,7 @@
 // are decided here and stored or compared by the callers.
 // Computes: Sheet
 use codes::kinds;
+use sheet_runs::run_end;
 use text_chars::RecAt;
 use text_chars::RecLen;
 use text_chars::TextAt;
@@ -157,7 +158,7 @@ fn with_member(n: usize, kind: u8) -> usize
     n + 1
 }
 
-// How many members stand from one place up to another.
+// How many members stand from one place up to another; those of one byte each are counted in runs.
 fn count_up_to(s: &[u8], from: RecAt, end: RecAt) -> usize
     requires { ⌜ Near (end .0) ⌝ }
     ensures { λ r. ⌜ CountIs (now (s .entry)) (from .0) (end .0) r ⌝ }
@@ -169,7 +170,9 @@ fn count_up_to(s: &[u8], from: RecAt, end: RecAt) -> usize
         let kind = kind_at(s, RecAt(p));
         n = with_member(n, kind);
         let next = record_end(s, RecAt(p));
-        p = next.0;
+        let run = run_end(s, next, RecAt(e));
+        n += run.0 - next.0;
+        p = run.0;
     }
     n
 }

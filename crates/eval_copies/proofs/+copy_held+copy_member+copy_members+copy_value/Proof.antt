@@ -12,7 +12,7 @@ use Rattle.eval_copies.proofs.copy_member.Reads as copy-member
 use Rattle.eval_copies.proofs.+copy_held+copy_member+copy_members+copy_value.Proof.CopyMember.{copy-member-copy-key-requires, copy-member-copy-value-requires, copy-member-same-length, copy-member-returns}
 use Rattle.eval_copies.proofs.+copy_held+copy_member+copy_members+copy_value.Lts-copy_members as copy-members-lts
 use Rattle.eval_copies.proofs.copy_members.Reads as copy-members
-use Rattle.eval_copies.proofs.+copy_held+copy_member+copy_members+copy_value.Proof.CopyMembers.{copy-members-Inv-loop, copy-members-μ-loop, copy-members-loop-holds, copy-members-same-length, copy-members-returns, copy-members-copy-member-requires, copy-members-deepest-requires, copy-members-sub-left, copy-members-loop-less, copy-members-loop-again, copy-members-same-length-2, copy-members-returns-2}
+use Rattle.eval_copies.proofs.+copy_held+copy_member+copy_members+copy_value.Proof.CopyMembers.{copy-members-Inv-loop, copy-members-μ-loop, copy-members-loop-holds, copy-members-same-length, copy-members-returns, copy-members-copy-member-requires, copy-members-sub-left, copy-members-copy-run-requires, copy-members-sub-left-2, copy-members-sub-left-3, copy-members-loop-less, copy-members-loop-again, copy-members-same-length-2, copy-members-returns-2}
 use Rattle.eval_copies.proofs.+copy_held+copy_member+copy_members+copy_value.Lts-copy_value as copy-value-lts
 use Rattle.eval_copies.proofs.copy_value.Reads as copy-value
 use Rattle.eval_copies.proofs.+copy_held+copy_member+copy_members+copy_value.Proof.CopyValue.{copy-value-kind-at-requires, copy-value-shape-of-requires, copy-value-enum-told, copy-value-copy-plain-requires, copy-value-enum-told-2, copy-value-copy-plain-requires-2, copy-value-enum-told-3, copy-value-copy-word-requires, copy-value-enum-told-4, copy-value-copy-held-requires, copy-value-same-length, copy-value-returns, copy-value-same-length-2, copy-value-returns-2, copy-value-same-length-3, copy-value-returns-3, copy-value-same-length-4, copy-value-returns-4}
@@ -46,8 +46,10 @@ pub +copy-held+copy-member+copy-members+copy-value-spec : {M : Type 1} → state
     (copy-members-same-length t)
     (copy-members-returns t)
     (copy-members-copy-member-requires t)
-    (copy-members-deepest-requires t)
     (copy-members-sub-left t)
+    (copy-members-copy-run-requires t)
+    (copy-members-sub-left-2 t)
+    (copy-members-sub-left-3 t)
     (copy-members-loop-less t)
     (copy-members-loop-again t)
     (copy-members-same-length-2 t)

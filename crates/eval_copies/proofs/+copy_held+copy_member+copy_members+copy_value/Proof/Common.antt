@@ -17,10 +17,10 @@ use Rattle.eval_copies.proofs.+copy_held+copy_member+copy_members+copy_
 use Rattle.eval_record_copies.proofs.copy_key.Reads as copy-key-reads
 use Rattle.eval_record_copies.proofs.copy_plain.Reads as copy-plain-reads
 use Rattle.eval_record_copies.proofs.copy_word.Reads as copy-word-reads
-use Rattle.eval_copies.proofs.deepest.Reads as deepest-reads
 use Rattle.sheet_forms.proofs.kind_at.Reads as kind-at-reads
 use Rattle.eval_copies.proofs.one_deeper.Reads as one-deeper-reads
 use Rattle.eval_record_copies.proofs.copy_head.Reads as copy-head-reads
+use Rattle.eval_run_copies.proofs.copy_run.Reads as copy-run-reads
 use Rattle.sheet_forms.proofs.shape_of.Reads as shape-of-reads
 
 -- what is left to show, a declaration for each need
@@ -79,7 +79,7 @@ abbrev pub copy-member-k : ℕ → copy-member-lts.Claims
 copy-member-k t = (copy-key-reads.Asked, copy-key-reads.Learnt, copy-value-below t, copy-value.Post)
 
 abbrev pub copy-members-k : ℕ → copy-members-lts.Claims
-copy-members-k t = (copy-member-below t, copy-member.Post, deepest-reads.Asked, deepest-reads.Learnt)
+copy-members-k t = (copy-member-below t, copy-member.Post, copy-run-reads.Asked, copy-run-reads.Learnt)
 
 abbrev pub copy-value-k : ℕ → copy-value-lts.Claims
 copy-value-k t = (kind-at-reads.Asked, kind-at-reads.Learnt, shape-of-reads.Asked, shape-of-reads.Learnt, copy-plain-reads.Asked, copy-plain-reads.Learnt, copy-word-reads.Asked, copy-word-reads.Learnt, copy-held-below t, copy-held.Post)

@@ -27,14 +27,20 @@ copy-members-returns t c = search members-laws
 pub copy-members-copy-member-requires : (t : ℕ) → copy-members-lts.Need-copy-member-requires (copy-members-k t) (copy-members-at t) copy-members.Post copy-members-Inv-loop copy-members-μ-loop
 copy-members-copy-member-requires t c κs = search needs
 
-pub copy-members-deepest-requires : (t : ℕ) → copy-members-lts.Need-deepest-requires (copy-members-k t) (copy-members-at t) copy-members.Post copy-members-Inv-loop copy-members-μ-loop
-copy-members-deepest-requires t c κs = search needs
-
 pub copy-members-sub-left : (t : ℕ) → copy-members-lts.Need-sub-left (copy-members-k t) (copy-members-at t) copy-members.Post copy-members-Inv-loop copy-members-μ-loop
 copy-members-sub-left t c = search needs
 
+pub copy-members-copy-run-requires : (t : ℕ) → copy-members-lts.Need-copy-run-requires (copy-members-k t) (copy-members-at t) copy-members.Post copy-members-Inv-loop copy-members-μ-loop
+copy-members-copy-run-requires t c κs = search needs
+
+pub copy-members-sub-left-2 : (t : ℕ) → copy-members-lts.Need-sub-left-2 (copy-members-k t) (copy-members-at t) copy-members.Post copy-members-Inv-loop copy-members-μ-loop
+copy-members-sub-left-2 t c = search needs
+
+pub copy-members-sub-left-3 : (t : ℕ) → copy-members-lts.Need-sub-left-3 (copy-members-k t) (copy-members-at t) copy-members.Post copy-members-Inv-loop copy-members-μ-loop
+copy-members-sub-left-3 t c = search members-laws
+
 pub copy-members-loop-less : (t : ℕ) → copy-members-lts.Need-loop-less (copy-members-k t) (copy-members-at t) copy-members.Post copy-members-Inv-loop copy-members-μ-loop
-copy-members-loop-less t c = search needs
+copy-members-loop-less t c = search members-laws
 
 pub copy-members-loop-again : (t : ℕ) → copy-members-lts.Need-loop-again (copy-members-k t) (copy-members-at t) copy-members.Post copy-members-Inv-loop copy-members-μ-loop
 copy-members-loop-again t c = search members-laws
