@@ -1,12 +1,11 @@
 -- Document 02, No. 9: "three edits on it: replace a simple value by another, remove a field, append a simple field by its new path, in the
 -- root too". All three give the edited path a new answer, and leave the rest of the tree.
-use Prim.Native.Nat.{ℕ}
 use mathlib.Core.List.{List, [], _∷_}
 use mathlib.Core.Bool.{Bool, true, false, _&&_}
 use mathlib.Core.Option.{none, some}
 use Rattle.rules.specs.Bytes.{Text, same}
 use Rattle.rules.specs.Refusals.{Refusal, nowhere}
-use Rattle.rules.specs.Values.{Value, scalar, arrayOf, objectOf, Values, Members, no-members, member, Answer}
+use Rattle.rules.specs.Values.{Value, scalar, arrayOf, objectOf, Members, no-members, member, Answer}
 use Rattle.rules.specs.Layers.{madeMember}
 use Rattle.rules.specs.NamedValues.{valueAt}
 

@@ -3,11 +3,9 @@ use mathlib.Core.Path.{_≡_, refl}
 use Prim.Native.Nat.{ℕ, zero, suc}
 use Prim.Native.String.{String}
 use mathlib.Core.List.{List, [], _∷_, _++_, map}
-use lib.ListN.{length, replicate}
-use Rattle.rules.specs.Bytes.{Text}
-use Rattle.rules.specs.Refusals.{nowhere}
-use Rattle.rules.specs.Tree.{Scalar, null, string}
-use Rattle.rules.specs.Values.{Value, scalar, arrayOf, objectOf, Values, no-values, val}
+use lib.ListN.{replicate}
+use Rattle.rules.specs.Tree.{null}
+use Rattle.rules.specs.Values.{Value, scalar, arrayOf, Values, no-values, val}
 use Rattle.rules.specs.Sheet.{records, texts}
 use Rattle.rules.specs.Jobs.{Found}
 use Rattle.rules.specs.Cases.{bytes, num, str, arr, obj}

@@ -1,6 +1,6 @@
 -- Document 02, No. 9: the jobs. Tables and texts that are handed back are the used parts.
 use Prim.Native.Nat.{ℕ}
-use mathlib.Core.List.{List, []}
+use mathlib.Core.List.{List, [], _∷_}
 use mathlib.Core.Bool.{Bool, true, false, _&&_, _||_}
 use mathlib.Core.Option.{Option, none, some}
 use lib.Dec.{leb, eqb}
@@ -25,6 +25,15 @@ use Rattle.rules_tables.specs.Edits.{Edit, replace, remove, append, Outc
 -- 36 equal keys in one object: toSizedJob
 -- 13 the edited tree is over its size: settled
 -- 14 a room that is too small: toSizedJob, fromSizedJob, settled
+-- Look-up in a sized table has look-up's numbers.
+abbrev pub toSizedNumbers : List ℕ
+toSizedNumbers = 1 ∷ 15 ∷ 36 ∷ 14 ∷ []
+
+abbrev pub fromSizedNumbers : List ℕ
+fromSizedNumbers = 1 ∷ 15 ∷ 14 ∷ []
+
+abbrev pub editNumbers : List ℕ
+editNumbers = 1 ∷ 15 ∷ 2 ∷ 3 ∷ 4 ∷ 5 ∷ 7 ∷ 8 ∷ 16 ∷ 34 ∷ 35 ∷ 13 ∷ 14 ∷ []
 
 -- a table and its text part that may be lent; otherwise 1
 abbrev pub lendable : (table text : List ℕ) → Bool
