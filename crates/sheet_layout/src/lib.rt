@@ -6,6 +6,7 @@ use sheet_forms::Record;
 use sheet_forms::record_at;
 use sheet_forms::size_of;
 use sheet_forms::text_len;
+use sheet_runs::run_end;
 use text_chars::RecAt;
 use text_chars::RecLen;
 use text_chars::TextAt;
@@ -13,7 +14,7 @@ ghost use Prim.Native.Nat.{_+_, _≤_};
 ghost use mathlib.Core.List.{[], _∷_};
 ghost use lib.ListN.{length};
 ghost use Rattle.sheet_forms.specs.Model.{sizeOf};
-ghost use Rattle.sheet_layout.specs.Contracts.{Asked, SetIs, EqIs, StoreIs, SameIs, LayIs, SameRecordsIs};
+ghost use Rattle.sheet_layout.specs.Contracts.{Asked, SetIs, EqIs, StoreIs, SameIs, RunLaidIs, LayIs, SameRecordsIs};
 ghost use Rattle.sheet_forms.specs.declared.Form.{Form as Forms};
 
 // ---- one record stored
@@ -99,7 +100,22 @@ fn same_record(part: &[u8], at: RecAt, r: Record) -> bool
 
 // ---- all records of a value
 
-// Lays the value in the room in a form.
+// Lays records of one byte each as they stand, from a place on; the place after them.
+fn lay_run(room: &[u8], len: RecLen, at: RecAt, part: &mut [u8]) -> RecAt
+    requires { ⌜ len .0 ≤ length (now part) ⌝ }
+    ensures { λ r. ⌜ RunLaidIs (now (room .entry)) (len .0) (at .0) (r .0) (now (part .entry)) (now (part .exit)) ⌝ }
+{
+    let end = run_end(room, at, RecAt(len.0));
+    let last = end.0;
+    let mut i = at.0;
+    while i < last {
+        part[i] = room[i];
+        i += 1;
+    }
+    end
+}
+
+// Lays the value in the room in a form; records of one byte each in runs.
 fn lay_form(room: &[u8], len: RecLen, form: Form, t: TextAt, part: &mut [u8])
     requires { ⌜ Asked (now room) (len .0) (t .0) (now part) ⌝ }
     ensures { λ _. ⌜ LayIs form (now (room .entry)) (len .0) (t .0) (now (part .entry)) (now (part .exit)) ⌝ }
@@ -115,7 +131,8 @@ fn lay_form(room: &[u8], len: RecLen, form: Form, t: TextAt, part: &mut [u8])
         store(part, RecAt(p), r);
         let m = text_len(r);
         text += m.0;
-        p += n.0;
+        let end = lay_run(room, len, RecAt(p + n.0), part);
+        p = end.0;
     }
 }
 
