@@ -883,7 +883,7 @@ DZ_INLINE int dz_integer(const struct dz_sheet *sheet, const uint8_t *record, in
     if (record == NULL || dz_kind(record) != DZ_KIND_NUMBER)
         return DZ_INTEGER_NONE;
     const char *text = dz_text(sheet, record);
-    size_t length = dz_text_length(record), first = length > 0 && text[0] == '-' ? 1 : 0;
+    size_t length = dz_text_length(record), first = text[0] == '-' ? 1 : 0; /* an empty text is "" */
     if (first == length || (text[first] == '0' && length > first + 1))
         return DZ_INTEGER_NONE;
     int64_t below = 0; /* the number with a minus sign: there is one more of these */
@@ -893,7 +893,8 @@ DZ_INLINE int dz_integer(const struct dz_sheet *sheet, const uint8_t *record, in
             return DZ_INTEGER_NONE;
         int digit = text[i] - '0';
         fits = fits && below >= (INT64_MIN + digit) / 10;
-        below = fits ? below * 10 - digit : 0;
+        if (fits)
+            below = below * 10 - digit;
     }
     if (!fits || (first == 0 && below == INT64_MIN))
         return DZ_INTEGER_OVERFLOW;

@@ -213,6 +213,7 @@ int main(void)
         fprintf(stderr, "stack: dz_%s takes %zu bytes\n", names[job], taken[job]);
         fits = fits && taken[job] <= (job < 2 ? DZ_STACK_MAX - MARGIN : DZ_LOOK_UP_STACK_MAX - LOOK_UP_MARGIN);
     }
-    puts(fits ? "each job leaves a margin of what the header says" : "a job takes more than the header says, or nearly so");
+    printf("the header says %u and %u bytes\n", DZ_STACK_MAX, DZ_LOOK_UP_STACK_MAX);
+    puts(fits ? "each job leaves a margin of that" : "a job takes more than that, or nearly so");
     return fits ? 0 : 1;
 }

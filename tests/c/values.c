@@ -15,6 +15,8 @@ static void hold(bool holds, const char *what)
     if (!holds) {
         printf("wrong: %s\n", what);
         mismatches++;
+        if (getenv("DZ_MUTANT") != NULL)
+            exit(1); /* one is enough for tests/c/mutants */
     }
 }
 
@@ -268,6 +270,7 @@ static void integers(void)
     static const char *const none[] = {"2.0", "1e3", "1E3", "01", "-01", "00", "-", "", "+1", " 1", "1 ",
                                        "1x", "--1", "0x10", "1.", ".5", ":", "/"};
     static char digits[1000];
+    hold(DZ_INTEGER_OK == 0 && DZ_INTEGER_NONE == 1 && DZ_INTEGER_OVERFLOW == 2, "the numbers of its answers");
     number("0", DZ_INTEGER_OK, 0);
     number("-0", DZ_INTEGER_OK, 0);
     number("4", DZ_INTEGER_OK, 4);
@@ -374,10 +377,18 @@ static void files(void)
     hold(!dz_sheet_open(file, length - 1, &opened) && !dz_sheet_open(file, length + 1, &opened), "no other length");
     release(lent);
 
-    /* Parts of the greatest lengths that a head can speak of, and of lengths with two unlike bytes. */
-    static const size_t lengths[][3] = {{65535, 65535, 65535}, {0x1234, 0x8001, 0x00ff}};
+    /* Four bytes tell a sheet file, and fewer none. */
+    for (size_t i = 0; i < 5; i++) {
+        struct lent begun = lend("\x8d" "DZS", i < 4 ? i : 4);
+        hold(dz_sheet_begins(begun.bytes, begun.length) == (begun.length == 4), "a sheet file begins");
+        give_back(begun);
+    }
+
+    /* Parts of the greatest lengths that a head can speak of and that a part may have, and of lengths with two unlike bytes. */
+    static const size_t lengths[][3] = {{65535, 65535, 65535}, {DZ_PART_MAX, DZ_PART_MAX, DZ_PART_MAX}, {0x1234, 0x8001, 0x00ff}};
     static uint8_t longest[DZ_SHEET_FILE_MAX];
-    for (size_t i = 0; i < 2; i++) {
+    hold(DZ_SHEET_HEAD == 12 && sizeof longest == 12 + 3 * 65535, "how long a head is, and a file");
+    for (size_t i = 0; i < sizeof lengths / sizeof lengths[0]; i++) {
         size_t trail = lengths[i][0], table = lengths[i][1], text = lengths[i][2];
         dz_sheet_head(longest, trail, table, text);
         hold(memcmp(longest, "\x8d" "DZS\1\0", 6) == 0 && longest[6] == trail >> 8 && longest[7] == (trail & 255), "a head's bytes");
@@ -395,8 +406,8 @@ int main(void)
     damaged();
     texts();
     integers();
-    any_bytes();
     files();
+    any_bytes();
     if (mismatches != 0)
         fprintf(stderr, "%d things are wrong\n", mismatches);
     return mismatches == 0 ? 0 : 1;
