@@ -1,9 +1,9 @@
 -- The three demands, of the code: for any runs of resolve, check and look-up, whatever they were lent, by the functions' contracts alone.
 --
--- A run of resolve is `ResolveIs document environment budget b c f b′ c′ f′ r`: the buffers for trail, table and text were b, c and f and are
--- b′, c′ and f′. A run of check is `CheckIs document environment trail table text v`. Of look-up, `found` is what `look_up_answer` gives and
--- `part` what `look_up` hands back. The words are those of Demands and Promises, which say the same of the rules' jobs. Last, what is promised of
--- `length`.
+-- A run of resolve is `ResolveIs document environment budget b c f b′ c′ f′ r`: the buffers for trail, table and text were b, c and f and
+-- are b′, c′ and f′. A run of check is `CheckIs document environment trail table text v`. Of look-up, `found` is what `look_up_answer`
+-- gives and `part` what `look_up` hands back. The words are those of Demands and Promises, which say the same of the rules' jobs. Last,
+-- what is promised of `length`.
 use mathlib.Core.Path.{_≡_, refl, sym, ap, _∙_}
 use Prim.Native.Nat.{ℕ, _+_, _-_, _≤_}
 use mathlib.Core.List.{List, []}

@@ -1,9 +1,10 @@
--- The three demands, of the exports that C calls: for any runs of dz_resolve, dz_check and dz_look_up, whatever they were lent, by their contracts
--- and the unpacking laws alone.
+-- The three demands, of the exports that C calls: for any runs of dz_resolve, dz_check and dz_look_up, whatever they were lent, by their
+-- contracts and the unpacking laws alone.
 --
--- A run of dz_resolve is `PackedResolveIs document environment budget b c f b′ c′ f′ r`: the buffers for trail, table and text were b, c and f and
--- are b′, c′ and f′, and r are the 64 bits. What the header's functions take out of them is `bits.numberIn r` (dz_number), `bits.placeIn r`
--- (dz_place), `bits.countIn r` (dz_resolve_count) and so on; the sheet handed back is as many bytes of each buffer as they say.
+-- A run of dz_resolve is `PackedResolveIs document environment budget b c f b′ c′ f′ r`: the buffers for trail, table and text were b, c
+-- and f and are b′, c′ and f′, and r are the 64 bits. What the header's functions take out of them is `bits.numberIn r` (dz_number),
+-- `bits.placeIn r` (dz_place), `bits.countIn r` (dz_resolve_count) and so on; the sheet handed back is as many bytes of each buffer as they
+-- say.
 use mathlib.Core.Path.{_≡_, refl, sym, ap, subst, _∙_}
 use Prim.Native.Nat.{ℕ, _+_, _*_, _≤_}
 use mathlib.Core.List.{List}
@@ -57,7 +58,8 @@ pub record LengthRead (table text : List ℕ) (g : ℕ) : Type 0 where
 
 -- dz_check answers 0 exactly if check says yes
 checked-yes : (document environment trail table text : List ℕ)
-    → (packedVerdict (J.checkJob document environment trail table text) ≡ 0) ↔ demands.Yes (J.checkJob document environment trail table text)
+    → (packedVerdict (J.checkJob document environment trail table text) ≡ 0)
+    ↔ demands.Yes (J.checkJob document environment trail table text)
 unfolding packedVerdict
 checked-yes d e trail table text = (
   λ z. let n : J.checkJob d e trail table text .number + J.checkJob d e trail table text .place * 64 ≡ 0 = z in omega (arith, n),
@@ -147,7 +149,8 @@ module _ {document environment : List ℕ} {budget : ℕ} {b c f b′ c′ f′ 
         × (v : Value)
         × (S : Trail Answer)
         × (inputs true document environment ≡ valid x)
-        × (resolve (J.orderOf x (J.roomOf (length b)) (J.roomOf (length f))) budget (rootValue (x .document .root) (x .environment)) (countOf x)
+        × (resolve (J.orderOf x (J.roomOf (length b)) (J.roomOf (length f))) budget (rootValue (x .document .root) (x .environment))
+        (countOf x)
         ≡ answer v S (bits.countIn r))
         × LaidOut S v trailBack tableBack textBack
     handed-back-is =
@@ -164,7 +167,8 @@ module _ {document environment : List ℕ} {budget : ℕ} {b c f b′ c′ f′ 
     pub handed-back-accepted : {v : ℕ} → Checked document environment trailBack tableBack textBack v → v ≡ 0
     handed-back-accepted check =
         check .is ∙ checked-yes document environment trailBack tableBack textBack .1
-        (rw (trail-is, table-is, text-is) (demands.resolved-accepted document environment budget (length b) (length c) (length f) (succeeds z)))
+        (rw (trail-is, table-is, text-is)
+        (demands.resolved-accepted document environment budget (length b) (length c) (length f) (succeeds z)))
 
     -- "So is every reordering of that sheet in which each blend stands after those it needs": and only then
     pub reordered-accepted : {trail table text : List ℕ} (p : Reordering trailBack tableBack textBack trail table text)
@@ -193,7 +197,8 @@ module _ {document environment : List ℕ} {b c f b′ c′ f′ : List ℕ} {r 
   pub refused-exactly : Refuses (bits.numberIn r) ↔ ((trail table text : List ℕ) → Checked document environment trail table text 0 → ⊥)
   refused-exactly = (
     λ h trail table text check. h (accepted-resolves check .0),
-    λ never z. never (trailBack run) (tableBack run) (textBack run) (record { is = sym (handed-back-accepted run z (record { is = refl })) }),
+    λ never z. never (trailBack run) (tableBack run) (textBack run)
+        (record { is = sym (handed-back-accepted run z (record { is = refl })) }),
   )
 
 -- ---- dz_check
@@ -258,7 +263,8 @@ module _ {table text path : List ℕ} {g : ℕ} (run : LookedUp table text path 
   abbrev pub AnswerFor : Option Value → Type 0
   AnswerFor none = (look.numberIn g ≡ 16) × (look.placeIn g ≡ 0)
   AnswerFor (some w) =
-      (look.numberIn g ≡ 0) × (offset : ℕ) × (slice (look.offsetIn g) (look.offsetIn g + look.lengthIn g) table ≡ records offset w) × At text offset (texts w)
+      (look.numberIn g ≡ 0) × (offset : ℕ) × (slice (look.offsetIn g) (look.offsetIn g + look.lengthIn g) table ≡ records offset w)
+      × At text offset (texts w)
 
   -- "A look-up hands back precisely the records of the value that the path names in the table", in a sheet to which dz_check answers 0
   pub look-up-finds : {document environment trail : List ℕ} → Checked document environment trail table text 0
@@ -268,7 +274,8 @@ module _ {table text path : List ℕ} {g : ℕ} (run : LookedUp table text path 
   unfolding J.notFound
   look-up-finds {document} {environment} {trail} check S v laid names end short well good =
       go (valueAt names v)
-      (promises.accepted-look-up document environment trail table text (checked-yes document environment trail table text .0 (sym (check .is))) S v laid
+      (promises.accepted-look-up document environment trail table text
+      (checked-yes document environment trail table text .0 (sym (check .is))) S v laid
       path names end short well good)
     where
       go : (o : Option Value) → FoundIn table text (J.lookUpJob table text path) o → AnswerFor o

@@ -1,5 +1,5 @@
--- What resolve and check promise, for all bytes that they are lent: the paper's number, place and count, and every byte of the buffers. To C the
--- numbers go in 64 bits.
+-- What resolve and check promise, for all bytes that they are lent: the paper's number, place and count, and every byte of the buffers. To
+-- C the numbers go in 64 bits.
 use mathlib.Core.Path.{_≡_}
 use Prim.Native.Nat.{ℕ, _≤_}
 use mathlib.Core.List.{List}
