@@ -6,9 +6,8 @@ use lib.ListN.{length}
 use Rattle.job_resolved.specs.Answers.{resolutionTold, packedResolution, Packable}
 use Rattle.job_resolved.specs.Unpacking.{packable}
 use Rattle.job_resolved.specs.Bits.{resolve-roomy}
-use Rattle.job_resolved.specs.Contracts.{ResolveIs}
+use Rattle.job_resolved.specs.Contracts.{ResolveIs, PackedResolveIs}
 use Rattle.job_resolved.specs.declared.Resolution.{Resolution}
-use Rattle.dzintrulo.specs.ResolveJob.{PackedResolveIs}
 
 module _ {d e : List ℕ} {budget : ℕ} {b c f b′ c′ f′ : List ℕ} {q : Resolution} (R : ResolveIs d e budget b c f b′ c′ f′ q) where
   pub resolution-packable : Packable q

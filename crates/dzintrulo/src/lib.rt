@@ -3,8 +3,8 @@
 ghost use mathlib.Core.Path.{_≡_};
 ghost use Rattle.rules.specs.Jobs.{checkJob, lookUpJob, lengthJob};
 ghost use Rattle.job_resolved.specs.Answers.{packedVerdict};
+ghost use Rattle.job_resolved.specs.Contracts.{PackedResolveIs};
 ghost use Rattle.job_answers.specs.Answers.{packed};
-ghost use Rattle.dzintrulo.specs.ResolveJob.{PackedResolveIs};
 ghost use Rattle.job_length.specs.Packed.{packedLength};
 ghost use Rattle.rules_profile.specs.Profile.{profileJob};
 ghost use Rattle.job_profile.specs.Packed.{packedProfile};

@@ -1,27 +1,30 @@
 -- The three demands, of the code: for any runs of resolve, check and look-up, whatever they were lent, by the functions' contracts alone.
 --
--- A run of resolve is `ResolveIs document environment budget b c f b′ c′ f′ r`: the buffers for trail, table and text were b, c and f and are
--- b′, c′ and f′. A run of check is `CheckIs document environment trail table text v`. Of look-up, `found` is what `look_up_answer` gives and
--- `part` what `look_up` hands back. The words are those of Demands and Promises, which say the same of the rules' jobs.
+-- A run of resolve is `ResolveIs document environment budget b c f b′ c′ f′ r`: the buffers for trail, table and text were b, c and f and
+-- are b′, c′ and f′. A run of check is `CheckIs document environment trail table text v`. Of look-up, `found` is what `look_up_answer`
+-- gives and `part` what `look_up` hands back. The words are those of Demands and Promises, which say the same of the rules' jobs. Last,
+-- what is promised of `length`.
 use mathlib.Core.Path.{_≡_, refl, sym, ap, _∙_}
 use Prim.Native.Nat.{ℕ, _+_, _-_, _≤_}
 use mathlib.Core.List.{List, []}
-use mathlib.Core.Bool.{true}
+use mathlib.Core.Bool.{true, false}
 use mathlib.Core.Option.{Option, none, some}
 use mathlib.Core.Logic.{_↔_}
 use native.Mathlib.Omega.{arith}
 use lib.ListN.{length, replicate}
 use Rattle.answers.specs.Ask.{Trail}
 use Rattle.answers.specs.Resolve.{answer, resolve, Accepts}
-use Rattle.rules.specs.Sizes.{maxPathText}
+use Rattle.rules.specs.Sizes.{maxPathText, maxNesting}
 use Rattle.rules.specs.Bytes.{Text, At}
-use Rattle.rules.specs.Refusals.{resolveNumbers, checkNumbers, ok}
+use Rattle.rules.specs.Refusals.{resolveNumbers, checkNumbers, lookUpNumbers, lengthNumbers, ok}
 use Rattle.rules.specs.Utf8.{illFormed}
 use Rattle.rules.specs.Paths.{pathText}
 use Rattle.rules.specs.Values.{Value, Answer, withinSize, recordSize}
 use Rattle.rules.specs.Unresolved.{rootValue}
 use Rattle.rules.specs.Documents.{Setting, valid, inputs, countOf}
 use Rattle.rules.specs.Sheet.{records, texts}
+use Rattle.rules.specs.LookUp.{isWhole, afterValue, textAt, valueNamed}
+use Rattle.rules.specs.Micrometres as rules
 use Rattle.rules.specs.NamedValues.{valueAt}
 use Rattle.rules.specs.Meaning.{MeanTheSame}
 use Rattle.rules.specs.Counting.{entriesIn}
@@ -30,10 +33,14 @@ use Rattle.rules.specs.Jobs as J
 use Rattle.theory.specs.BothJobs.{approval-resolves, approval-means}
 use Rattle.theory.specs.Jobs.{approval-yes}
 use Rattle.theory.specs.Reordered.{approval-rules, rules-approval, reordering-in-order, reordering-approval}
+use Rattle.theory.specs.LookUpSteps.{found-none, look-up-path}
+use Rattle.theory.specs.Micrometres.{Exact}
 use Rattle.theory.specs.Demands as demands
 use Rattle.theory.specs.Promises as promises
 use Rattle.text_chars.specs.declared.DocAt.{DocAt}
 use Rattle.text_chars.specs.Parts.{part-slice}
+use Rattle.text_micrometres.specs.Contracts.{measuredOf}
+use Rattle.text_micrometres.specs.declared.Measured.{Measured}
 use Rattle.job_answers.specs.Answers.{jobOf, partOf, refused-part}
 use Rattle.job_answers.specs.declared.Found.{Found}
 use Rattle.job_resolved.specs.Contracts.{ResolveIs, CheckIs}
@@ -188,8 +195,61 @@ module _ {document environment trail table text : List ℕ} {v : Verdict} (run :
           let cut = part-slice table start (start + recordSize u) (omega arith) in
           (e .offset, q ∙ ap (partOf table) (e .handed) ∙ (rw whole at cut) ∙ e .its-records, e .its-texts)
 
--- "a refused look-up hands back an empty part"
-pub refused-look-up : (table text path : List ℕ) {found : Found} {part : List ℕ} {number : ℕ} {place : DocAt}
-    → jobOf found ≡ J.lookUpJob table text path → found ≡ Found.Refused number place → part ≡ partOf table (J.lookUpJob table text path) → part ≡ []
-refused-look-up table text path {number = number} {place = place} e h q =
-    q ∙ ap (partOf table) (sym (rw h at e)) ∙ refused-part table number place
+-- ---- look-up, in tables from anywhere: `found` is what `look_up_answer` gives, `part` what `look_up` hands back
+
+module _ (table text path : List ℕ) {found : Found} (run : jobOf found ≡ J.lookUpJob table text path) where
+  -- "a refused look-up hands back an empty part"
+  pub refused-look-up : {part : List ℕ} {number : ℕ} {place : DocAt}
+      → found ≡ Found.Refused number place → part ≡ partOf table (J.lookUpJob table text path) → part ≡ []
+  refused-look-up {number = number} {place = place} h q = q ∙ ap (partOf table) (sym (rw h at run)) ∙ refused-part table number place
+
+  -- a refusal has a number of the job's list, and a place in the path text, or its length
+  pub look-up-refusal : {number : ℕ} {place : DocAt} → found ≡ Found.Refused number place
+      → promises.OneOf lookUpNumbers number × (place .0 ≤ length path)
+  look-up-refusal {number} {place} h =
+      let n : number ≡ J.lookUpJob table text path .number = ap (λ (q : J.Found). q .number) (rw h at run) in
+      let p : place .0 ≡ J.lookUpJob table text path .place = ap (λ (q : J.Found). q .place) (rw h at run) in (
+        rw n (promises.look-up-numbers table text path (runs.found-refuses table text path run h)),
+        rw p (promises.look-up-place table text path),
+      )
+
+  module _ (lent : promises.LentTable table text path) (whole : isWhole table (length text) ≡ true) (well-formed : illFormed path ≡ none)
+      (names : List Text) (end : ℕ) (good-path : pathText path ≡ ok names end) where
+    -- 16 exactly if the path names nothing
+    pub look-up-16 : (found ≡ Found.Refused 16 (record { 0 = 0 })) ↔ (valueNamed table text names 0 ≡ none)
+    look-up-16 =
+        let (to, _) = promises.look-up-16 table text path lent whole well-formed names end good-path in (
+          λ h. to (sym (ap (λ (q : J.Found). q .number) (rw h at run))),
+          λ v. runs.found-nothing table text path run
+              (look-up-path table text path (lent .0) (lent .1) (lent .2) whole well-formed names end good-path
+              ∙ ap (J.foundAt table text) v ∙ found-none table text),
+        )
+
+    -- else precisely the records of the value that it names, from its first byte up to its end
+    pub look-up-part : (at : ℕ) → valueNamed table text names 0 ≡ some at
+        → (after : ℕ) × (afterValue maxNesting table (length text) at ≡ some after)
+        × (found ≡ Found.Part (record { 0 = at }) (record { 0 = after - at }))
+    look-up-part at v =
+        let (after, e, is) = promises.look-up-found table text path lent whole well-formed names end good-path at v in
+        let part = promises.look-up-part table text path .0 (ap (λ (q : J.Found). q .number) is) in
+        (after, e, runs.found-part table text path run is (omega (arith, part .0, ap (λ (q : J.Found). q .size) is)))
+
+-- ---- length: `r` is what `length` gives
+
+module _ (table text : List ℕ) (r : Measured) (run : measuredOf r ≡ J.lengthJob table text) where
+  -- a refusal has a number of the list
+  pub length-refusal : promises.Refuses (measuredOf r .number) → promises.OneOf lengthNumbers (measuredOf r .number)
+  length-refusal h = rw run (promises.length-refusal table text (λ z. h (ap (λ q. q .number) run ∙ z)) .0)
+
+  -- what is answered is exact, and within its limit
+  pub length-exact : (micrometres : ℕ) → r ≡ Measured.Micrometres micrometres → Exact (textAt table text 0) micrometres
+  length-exact micrometres h =
+      let is : _≡_ {A = rules.Measured} (record { number = 0; micrometres = micrometres }) (J.lengthJob table text) = rw h at run in
+      rw (ap (λ q. q .micrometres) is) (promises.length-exact table text (sym (ap (λ q. q .number) is)))
+
+  -- 1 and 15 come exactly when look-up's do
+  pub length-1 : (measuredOf r .number ≡ 1) ↔ (promises.LentParts table text → ⊥)
+  length-1 = rw run (promises.length-1 table text)
+
+  pub length-15 : promises.LentParts table text → (measuredOf r .number ≡ 15) ↔ (isWhole table (length text) ≡ false)
+  length-15 lent = rw run (promises.length-15 table text lent)

@@ -1,4 +1,4 @@
--- Runs of resolve and check, by their contracts: what a run hands back is what the job of the rules does.
+-- Runs of resolve, check and look-up, by their contracts: what a run hands back is what the job of the rules does.
 use mathlib.Core.Path.{_≡_, refl, sym, ap, _∙_}
 use Prim.Native.Nat.{ℕ, _≤_}
 use mathlib.Core.List.{List}
@@ -9,9 +9,14 @@ use Rattle.text_chars.specs.declared.DocAt.{DocAt}
 use Rattle.text_chars.specs.declared.RecLen.{RecLen}
 use Rattle.text_chars.specs.declared.TextLen.{TextLen}
 use Rattle.answers.specs.Theory.Sound.{clash}
+use Rattle.rules.specs.Refusals.{nowhere}
+use Rattle.rules.specs.Jobs as J
 use Rattle.rules.specs.Jobs.{Resolved, Buffers, resolveJob, filled, buffersOf}
 use Rattle.theory.specs.Jobs.{Approval, approval-inv, approval-is}
 use Rattle.theory.specs.BothJobs.{resolved-approval}
+use Rattle.theory.specs.Promises.{Refuses, look-up-part}
+use Rattle.job_answers.specs.Answers.{jobOf}
+use Rattle.job_answers.specs.declared.Found.{Found}
 use Rattle.job_resolved.specs.Answers.{Told, resolutionTold, resolvedTold, Packable, verdictOf}
 use Rattle.job_resolved.specs.Unpacking.{packable}
 use Rattle.job_resolved.specs.Bits.{resolve-roomy}
@@ -139,3 +144,28 @@ approval-run {d} {e} {trail} {table} {text} a = record {
   is = sym (approval-is d e trail table text a);
   refusal = λ number place h. clash (cc (h));
 }
+
+-- ---- look-up
+
+module _ (table text path : List ℕ) {found : Found} (run : jobOf found ≡ J.lookUpJob table text path) where
+  -- a refusal of a run is one of the rules: what is found is not empty
+  pub found-refuses : {number : ℕ} {place : DocAt} → found ≡ Found.Refused number place → Refuses (J.lookUpJob table text path .number)
+  found-refuses h z =
+      let none-found = ap (λ (q : J.Found). q .size) (rw h at run) in
+      absurd (omega (arith, none-found, look-up-part table text path .0 z .0))
+
+  pub found-nothing : J.lookUpJob table text path ≡ J.notFound (nowhere 16) → found ≡ Found.Refused 16 (record { 0 = 0 })
+  unfolding J.notFound
+  found-nothing e = go found (run ∙ e)
+    where
+      go : (f : Found) → jobOf f ≡ J.notFound (nowhere 16) → f ≡ Found.Refused 16 (record { 0 = 0 })
+      go (Found.Part start size) q = absurd (omega (arith, ap (λ (i : J.Found). i .number) q))
+      go (Found.Refused number place) q = rw (ap (λ (i : J.Found). i .number) q, ap (λ (i : J.Found). i .place) q) refl
+
+  pub found-part : {start size : ℕ} → J.lookUpJob table text path ≡ J.partAt start size → 1 ≤ size
+      → found ≡ Found.Part (record { 0 = start }) (record { 0 = size })
+  found-part {start} {size} e l = go found (run ∙ e)
+    where
+      go : (f : Found) → jobOf f ≡ J.partAt start size → f ≡ Found.Part (record { 0 = start }) (record { 0 = size })
+      go (Found.Part at long) q = rw (ap (λ (i : J.Found). i .start) q, ap (λ (i : J.Found). i .size) q) refl
+      go (Found.Refused number place) q = absurd (omega (arith, l, ap (λ (i : J.Found). i .size) q))

@@ -65,7 +65,7 @@ module _ (X : Refusal → Type 0) (with-spent : X spent) where
     mutual
       unfolding nodeValue
 
-      node-only : (n : Node) → Only X (nodeValue eval n)
+      pub node-only : (n : Node) → Only X (nodeValue eval n)
       node-only (simple x) = dones
       node-only (array es) = only-bind (elements-only es) (λ vs. dones)
       node-only (object fs) = ev (layer (written (object fs)) end)
@@ -117,7 +117,7 @@ module _ (X : Refusal → Type 0) (with-spent : X spent) where
   gather-only (wait b f) os = needs (λ a. gather-only (f a) os)
   gather-only (layer l ls) os = layer-taken os (λ os′. gather ls os′) (gather-only ls) l
 
-  value-only : (depth : ℕ) (ls : Layers) → Only X (valueOf depth ls)
+  pub value-only : (depth : ℕ) (ls : Layers) → Only X (valueOf depth ls)
   unfolding valueOf
   value-only zero ls = refuses with-spent
   value-only (suc depth) ls = only-bind (gather-only ls []) (λ c. counted-only (valueOf depth) (value-only depth) c)

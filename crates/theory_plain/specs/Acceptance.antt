@@ -1,5 +1,5 @@
--- What is accepted, part by part of document 01's sentence. `rules` finds the entries out of the trail's numbers (Checking, `entriesFrom`), so that
--- it can be computed; here they are said to be there.
+-- What is accepted, part by part of document 01's sentence. `rules` finds the entries out of the trail's numbers (Checking, `entriesFrom`),
+-- so that it can be computed; here they are said to be there.
 use mathlib.Core.Path.{_≡_, refl, sym, ap, _∙_}
 use Prim.Native.Nat.{ℕ, _+_, _-_, _≤_}
 use mathlib.Core.List.{List, [], _∷_, _++_, append-nil}

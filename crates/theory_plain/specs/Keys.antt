@@ -9,8 +9,8 @@ use borrow.Author.Tests.{ltb-true, ltb-false}
 use Rattle.rules.specs.Sizes.{maxNesting, maxItems, maxPath}
 use Rattle.rules.specs.Reading.{allowedKeys}
 
--- Of the element of a key with i elements before it, where so many items were counted before the key and the object is nested so deep. The key's
--- first element is a field of that object; "Each key element after the first opens one nesting".
+-- Of the element of a key with i elements before it, where so many items were counted before the key and the object is nested so deep. The
+-- key's first element is a field of that object; "Each key element after the first opens one nesting".
 pub record Allowed (nesting items i : ℕ) : Type 0 where
   -- "Path elements 16."
   pub elements : i + 1 ≤ maxPath
@@ -27,10 +27,12 @@ allowed-exactly nesting items i = (
 )
 
 -- So the first element over a limit is the one of that number.
-pub first-over : (nesting items i : ℕ) → (Allowed nesting items i → ⊥) → ((j : ℕ) → j < i → Allowed nesting items j) → i ≡ allowedKeys nesting items
+pub first-over : (nesting items i : ℕ) → (Allowed nesting items i → ⊥) → ((j : ℕ) → j < i → Allowed nesting items j)
+    → i ≡ allowedKeys nesting items
 first-over nesting items i over before = go (ltb i (allowedKeys nesting items)) refl (ltb (allowedKeys nesting items) i) refl
   where
-    go : (t : Bool) → ltb i (allowedKeys nesting items) ≡ t → (u : Bool) → ltb (allowedKeys nesting items) i ≡ u → i ≡ allowedKeys nesting items
+    go : (t : Bool) → ltb i (allowedKeys nesting items) ≡ t → (u : Bool) → ltb (allowedKeys nesting items) i ≡ u
+        → i ≡ allowedKeys nesting items
     go true e u f = absurd (over (allowed-exactly nesting items i .0 (ltb-true i (allowedKeys nesting items) e)))
     go false e true f =
         let a = allowedKeys nesting items in

@@ -1,5 +1,5 @@
--- Layers of a path as lists, where each unresolved value has its answer. `rules` has them lazy (Layers), since not every answer is there when they
--- are walked; with the answers there, they are these lists, and what counts of them is what is said here.
+-- Layers of a path as lists, where each unresolved value has its answer. `rules` has them lazy (Layers), since not every answer is there
+-- when they are walked; with the answers there, they are these lists, and what counts of them is what is said here.
 use mathlib.Core.Path.{_≡_, refl, sym, ap, _∙_}
 use Prim.Native.Nat.{ℕ}
 use mathlib.Core.List.{List, [], _∷_, _++_, reverseAux, append-assoc, append-nil}
@@ -10,7 +10,8 @@ use Rattle.rules.specs.Bytes.{Text, same}
 use Rattle.rules.specs.Refusals.{Refusal}
 use Rattle.rules.specs.Tree.{Node, simple, array, object, unresolved, Fields, no-fields, field}
 use Rattle.rules.specs.Values.{Value, scalar, arrayOf, objectOf, Members, no-members, member, Answer}
-use Rattle.rules.specs.Layers.{Work, Layer, written, settled, Layers, end, layer, wait, named, memberNamed, insideValue, insideAnswer, deeper, walkPath}
+use Rattle.rules.specs.Layers.{Work, Layer, written, settled, Layers, end, layer, wait}
+use Rattle.rules.specs.Layers.{named, memberNamed, insideValue, insideAnswer, deeper, walkPath}
 use Rattle.rules.specs.Layers.{Counted, nothing, one, merged, ofObjects, ofOther, takeValue, takeAnswer, takeLayer, gather}
 
 -- an undefined answer is no layer
@@ -23,8 +24,8 @@ abbrev pub membersNamed : Text → Members → List Layer
 membersNamed k no-members = []
 membersNamed k (member j v ms) = elim (same j k) [ true ↦ settled v ∷ [] | false ↦ membersNamed k ms ]
 
--- "take layers last first, skip undefined answers; a non-object is the result at once; an object merges with those below until a non-object or the
--- end." "Nothing left means undefined."
+-- "take layers last first, skip undefined answers; a non-object is the result at once; an object merges with those below until a non-object
+-- or the end." "Nothing left means undefined."
 abbrev pub isObject : Layer → Bool
 isObject (written (simple x)) = false
 isObject (written (array es)) = false
@@ -149,7 +150,8 @@ module _ (answers : ℕ → Answer) where
   some-objects [] o ls = refl
   some-objects (p ∷ os) o ls = some-objects os p (o ∷ ls)
 
-  some-others : (l : Layer) (os : List Layer) (o : Layer) (ls : List Layer) → ofOther l (reverseAux os (o ∷ ls)) ≡ merged (reverseAux os (o ∷ ls))
+  some-others : (l : Layer) (os : List Layer) (o : Layer) (ls : List Layer)
+      → ofOther l (reverseAux os (o ∷ ls)) ≡ merged (reverseAux os (o ∷ ls))
   unfolding ofOther
   some-others l [] o ls = refl
   some-others l (p ∷ os) o ls = some-others l os p (o ∷ ls)

@@ -1,5 +1,5 @@
--- Looking back as one function of the root and a value: the fields that are entered on the way from the root to it tell the path of its field and
--- the layers before that field. `rules` has both at hand as it lists the unresolved values (Unresolved).
+-- Looking back as one function of the root and a value: the fields that are entered on the way from the root to it tell the path of its
+-- field and the layers before that field. `rules` has both at hand as it lists the unresolved values (Unresolved).
 use mathlib.Core.Path.{_≡_, refl, sym, ap, _∙_}
 use Prim.Native.Nat.{ℕ}
 use mathlib.Core.List.{List, [], _∷_, _++_}
@@ -26,8 +26,8 @@ abbrev pub pathOf : Route → List Text
 pathOf [] = []
 pathOf (f ∷ outer) = pathOf outer ++ (f .key .text ∷ [])
 
--- "only layers of P before that field count (earlier fields of that key in the same literal, then the literal's lower layers)"; the root has
--- nothing below it
+-- "only layers of P before that field count (earlier fields of that key in the same literal, then the literal's lower layers)"; the root
+-- has nothing below it
 abbrev pub layersBefore : Route → Layers
 layersBefore [] = end
 layersBefore (f ∷ outer) = named (f .key .text) (f .earlier) (deeper (f .key .text) (layersBefore outer))
@@ -56,8 +56,8 @@ route-opens root b u e =
     sym (openness-of root b u e)
     ∙ sym (seen-node none further none fieldOpenness openBy refl further-opens (some []) 0 (rootNode root) b)
 
--- "A substitution standing directly in the blend of an open object's field with path P looks back if its path is P or longer by further elements";
--- "Otherwise it looks forward."
+-- "A substitution standing directly in the blend of an open object's field with path P looks back if its path is P or longer by further
+-- elements"; "Otherwise it looks forward."
 abbrev pub layersBy : Root → Option Route → List Text → Layers
 layersBy root none p = forward root p
 layersBy root (some r) p = elim (behind (pathOf r) p) [ none ↦ forward root p | some rest ↦ walkPath rest (layersBefore r) ]
