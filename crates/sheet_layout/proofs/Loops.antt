@@ -6,18 +6,19 @@ use mathlib.Core.List.{List, [], _++_}
 use native.Mathlib.Omega.{arith}
 use mir.Val.{Fits}
 use mir.Syntax.{w64}
-use lib.ListN.{length}
-use lib.Seq.{sets, length-sets}
+use lib.ListN.{length, take, drop, length-drop}
+use lib.Seq.{sets, length-sets, length-take-le}
 use Rattle.sheet_kept.specs.Sets.{sets-append}
 use Rattle.sheet_forms.specs.Model.{codeOf, sizeOf, textLenOf}
 use Rattle.sheet_forms.specs.Contracts.{RecordIs, SizeIs, TextLenIs}
 use Rattle.sheet_forms.specs.Sheet.{code-size}
 use Rattle.sheet_layout.specs.Model.{laysBy, lays, eqAt}
-use Rattle.sheet_layout.specs.Contracts.{StoreIs, SameIs, LayIs, SameRecordsIs}
+use Rattle.sheet_layout.specs.Contracts.{StoreIs, SameIs, RunLaidIs, LayIs, SameRecordsIs}
 use Rattle.sheet_layout.specs.Compared.{eqAt-append}
 use Rattle.sheet_layout.specs.Sheet.{lays-more, lays-none, laid-is, same-is}
 use Rattle.sheet_forms.specs.declared.Form.{Form}
 use Rattle.sheet_forms.specs.declared.Record.{Record}
+use Rattle.sheet_layout.proofs.Runs.{lays-run, run-upto}
 
 -- what is laid so far and what is still to lay come to the same; the same for comparing
 pub record Going {A : Type 0} (f : List ℕ → ℕ → List ℕ → A) (form : Form) (b₀ s : List ℕ) (len t₀ : ℕ) (b : List ℕ) (p t : ℕ) : Type 0 where
@@ -30,6 +31,32 @@ pub record Going {A : Type 0} (f : List ℕ → ℕ → List ℕ → A) (form : 
 
 pub going-start : {A : Type 0} {f : List ℕ → ℕ → List ℕ → A} {form : Form} {b s : List ℕ} {len t : ℕ} → Going f form b s len t b 0 t
 going-start {A} {f} {form} {b} {s} {len} {t} = record { fuel = len; enough = omega arith; is = refl; low = omega arith; text = omega arith; size = refl }
+
+-- a run more
+lay-run : {form : Form} {b₀ s : List ℕ} {len t₀ : ℕ} {b : List ℕ} {p t : ℕ} → len ≤ length s → Going sets form b₀ s len t₀ b p t
+    → {q : ℕ} {a : List ℕ} → RunLaidIs s len p q b a → Going sets form b₀ s len t₀ a q t
+lay-run {form} {b₀} {s} {len} {t₀} {b} {p} {t} l I {q} {a} u =
+    let low = u .run .low in
+    let high : q ≤ len = run-upto (u .run) (I .low) in
+    let k = q - p in
+    let xs = take k (drop p s) in
+    let rest = lays form (I .fuel - k) s len q t in
+    let e : p + k ≡ q = omega arith in
+    let c : p + length xs ≡ q = omega (arith, length-take-le k (drop p s) (omega (arith, length-drop p s))) in
+    record {
+      fuel = I .fuel - k;
+      enough = omega (arith, I .enough);
+      is =
+          I .is
+          ∙ ap (sets b p) (lays-run form s len k (I .fuel) p t (omega (arith, I .enough)) (omega arith) l (λ i x y. u .run .plain i x (omega arith)))
+          ∙ ap (λ (i : ℕ). sets b p (xs ++ lays form (I .fuel - k) s len i t)) e
+          ∙ sets-append b p xs rest
+          ∙ ap (λ (x : List ℕ). sets x (p + length xs) rest) (sym (u .is))
+          ∙ ap (λ (i : ℕ). sets a i rest) c;
+      low = high;
+      text = omega (arith, I .text);
+      size = ap length (u .is) ∙ length-sets b p xs ∙ I .size;
+    }
 
 module _ {form : Form} {s : List ℕ} {len p t : ℕ} {r : Record} (h : RecordIs form s len p t r) {n : ℕ} (e : SizeIs r n) where
   no-more : n ≡ 0 → (f : ℕ) → lays form f s len p t ≡ []
@@ -91,6 +118,18 @@ module _ {form : Form} {s : List ℕ} {len p t : ℕ} {r : Record} (h : RecordIs
         going-step I z b′ m k (ap length (w .is) ∙ length-sets b p (codeOf r))
         (λ xs. sets-append b p (codeOf r) xs ∙ ap (λ (x : List ℕ). sets x (p + length (codeOf r)) xs) (sym (w .is)))
 
+    -- the record, and a run behind it
+    module _ (I : Going sets form b₀ s len t₀ b p t) {b′ : List ℕ} (w : StoreIs p r b b′) where
+      pub run-room : len ≤ length b₀ → len ≤ length b′
+      run-room l = omega (arith, ap length (w .is), length-sets b p (codeOf r), I .size)
+
+      module _ (z : n ≡ 0 → ⊥) {q : ℕ} {b″ : List ℕ} (u : RunLaidIs s len (p + n) q b′ b″) where
+        pub lay-turn : len ≤ length s → {m : ℕ} → TextLenIs r m → Going sets form b₀ s len t₀ b″ q (t + m)
+        lay-turn l k = lay-run l (lay-step I z w k) u
+
+        pub turn-less : len - q < len - p
+        turn-less = omega (arith, going-less I z, u .run .low)
+
 module _ {s : List ℕ} {len p t : ℕ} {r : Record} (h : RecordIs Form.Public s len p t r) {n : ℕ} (e : SizeIs r n) where
   module _ {b : List ℕ} {t₀ : ℕ} (I : Going eqAt Form.Public b s len t₀ b p t) where
     pub compare-step : (n ≡ 0 → ⊥) → {u : Bool} → SameIs p r b u → u ≡ true → {m : ℕ} → TextLenIs r m → Going eqAt Form.Public b s len t₀ b (p + n) (t + m)
@@ -123,6 +162,6 @@ module _ {s : List ℕ} {len p t : ℕ} {r : Record} (h : RecordIs Form.Public s
               ∙ eqAt-append b p (codeOf r) (lays Form.Public f s len (p + sizeOf r) (t + textLenOf r))
               ∙ ap (λ (x : Bool). cond x (eqAt b (p + length (codeOf r)) (lays Form.Public f s len (p + sizeOf r) (t + textLenOf r))) false) (sym (w .is) ∙ y)
 
-pub ruleset lay-laws = (going-start, lay-end, lay-step, going-less, going-room, going-fits)
+pub ruleset lay-laws = (going-start, lay-end, lay-step, lay-turn, going-less, turn-less, run-room, going-room, going-fits)
 
 pub ruleset compare-laws = (going-start, compare-end, compare-differs, compare-step, going-less, going-room, going-fits)

@@ -1,7 +1,7 @@
 -- What the functions promise: by the model for any bytes, and by the rules where the room holds a value.
 use mathlib.Core.Path.{_≡_}
 use mathlib.Core.Logic.{_↔_}
-use Prim.Native.Nat.{ℕ, _≤_, _<_}
+use Prim.Native.Nat.{ℕ, _-_, _≤_, _<_}
 use mathlib.Core.Bool.{Bool, true}
 use mathlib.Core.List.{List, _++_}
 use lib.ListN.{length, take, drop}
@@ -9,6 +9,7 @@ use lib.Seq.{sets}
 use Rattle.rules.specs.Bytes.{Text}
 use Rattle.rules.specs.Values.{textSize}
 use Rattle.sheet_kept.specs.Kept.{Held, named, kept, layout}
+use Rattle.sheet_runs.specs.Contracts.{RunIs}
 use Rattle.sheet_forms.specs.Model.{codeOf}
 use Rattle.sheet_forms.specs.Contracts.{Lent, twoBytes}
 use Rattle.sheet_layout.specs.Model.{lays, eqAt}
@@ -31,6 +32,11 @@ pub record StoreIs (p : ℕ) (r : Record) (b a : List ℕ) : Type 0 where
 
 pub record SameIs (p : ℕ) (r : Record) (s : List ℕ) (u : Bool) : Type 0 where
   pub is : u ≡ eqAt s p (codeOf r)
+
+-- a run of records of one byte each, as they stand
+pub record RunLaidIs (s : List ℕ) (len p q : ℕ) (b a : List ℕ) : Type 0 where
+  pub run : RunIs s p len q
+  pub is : a ≡ sets b p (take (q - p) (drop p s))
 
 -- the first len bytes of s are a value as kept, its texts from somewhere on
 pub record Holds (key : ℕ → Text) (v : Held) (s : List ℕ) (len : ℕ) : Type 0 where

@@ -6,6 +6,7 @@ use sheet_forms::Record;
 use sheet_forms::record_at;
 use sheet_forms::size_of;
 use sheet_forms::text_len;
+use sheet_runs::run_end;
 use text_chars::RecAt;
 use text_chars::RecLen;
 use text_chars::TextAt;
@@ -13,8 +14,11 @@ ghost use Prim.Native.Nat.{_+_, _≤_};
 ghost use mathlib.Core.List.{[], _∷_};
 ghost use lib.ListN.{length};
 ghost use Rattle.sheet_forms.specs.Model.{sizeOf};
-ghost use Rattle.sheet_layout.specs.Contracts.{Asked, SetIs, EqIs, StoreIs, SameIs, LayIs, SameRecordsIs};
+ghost use Rattle.sheet_layout.specs.Contracts.{Asked, SetIs, EqIs, StoreIs, SameIs, RunLaidIs, LayIs, SameRecordsIs};
 ghost use Rattle.sheet_forms.specs.declared.Form.{Form as Forms};
+
+// How many bytes a record has that is a kind alone. Only behind one a run is looked for, so that other records do not pay for it.
+const PLAIN: usize = 1;
 
 // ---- one record stored
 
@@ -99,7 +103,22 @@ fn same_record(part: &[u8], at: RecAt, r: Record) -> bool
 
 // ---- all records of a value
 
-// Lays the value in the room in a form.
+// Lays records of one byte each as they stand, from a place on; the place after them.
+fn lay_run(room: &[u8], len: RecLen, at: RecAt, part: &mut [u8]) -> RecAt
+    requires { ⌜ len .0 ≤ length (now part) ⌝ }
+    ensures { λ r. ⌜ RunLaidIs (now (room .entry)) (len .0) (at .0) (r .0) (now (part .entry)) (now (part .exit)) ⌝ }
+{
+    let end = run_end(room, at, RecAt(len.0));
+    let last = end.0;
+    let mut i = at.0;
+    while i < last {
+        part[i] = room[i];
+        i += 1;
+    }
+    end
+}
+
+// Lays the value in the room in a form; records of one byte each in runs.
 fn lay_form(room: &[u8], len: RecLen, form: Form, t: TextAt, part: &mut [u8])
     requires { ⌜ Asked (now room) (len .0) (t .0) (now part) ⌝ }
     ensures { λ _. ⌜ LayIs form (now (room .entry)) (len .0) (t .0) (now (part .entry)) (now (part .exit)) ⌝ }
@@ -116,6 +135,10 @@ fn lay_form(room: &[u8], len: RecLen, form: Form, t: TextAt, part: &mut [u8])
         let m = text_len(r);
         text += m.0;
         p += n.0;
+        if n.0 == PLAIN {
+            let end = lay_run(room, len, RecAt(p), part);
+            p = end.0;
+        }
     }
 }
 

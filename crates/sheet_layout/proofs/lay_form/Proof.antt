@@ -27,5 +27,8 @@ lay-form-spec =
     (λ c κs. search needs)
     (λ c. search needs)
     (λ c. search lay-laws)
+    (λ c κs. search lay-laws)
+    (λ c. search lay-laws)
+    (λ c. search lay-laws)
     (λ c. search lay-laws)
     (λ c. search lay-laws))
