@@ -1,6 +1,7 @@
 -- A law for each place where a function returns, and for what is lent on.
 use mathlib.Core.Path.{_≡_, refl, subst, _∙_}
 use Prim.Native.Nat.{ℕ, _+_, _*_, _-_, _≤_, _<_}
+use mathlib.Core.Bool.{Bool, true}
 use mathlib.Core.List.{List}
 use mathlib.Core.Option.{none}
 use native.Mathlib.Omega.{arith}
@@ -21,9 +22,10 @@ use Rattle.doc_items.specs.Room.{capacity}
 use Rattle.eval_writer.specs.Contracts.{Room}
 use Rattle.eval_extents.specs.declared.Extent.{Extent}
 use Rattle.eval_taken.specs.Levels.{same-below}
+use Rattle.eval_state.specs.Memories.{answersOf}
 use Rattle.eval_value_laws.specs.Contracts.{Left}
 use Rattle.eval_value_laws.specs.Frames.{left-all, left-then}
-use Rattle.eval_pieces.specs.Contracts.{Lent, Inside, PieceIs}
+use Rattle.eval_pieces.specs.Contracts.{Lent, PieceCase, PieceIs}
 use Rattle.eval_pieces.specs.declared.Piece.{Piece}
 use Rattle.eval_piece_items.specs.Contracts.{endC, EndIs, NextIs}
 use Rattle.eval_piece_values.specs.Contracts.{PieceAsked, PieceValueIs, ValueCase}
@@ -32,9 +34,10 @@ use Rattle.eval_questions.specs.Contracts.{Asked, Questioned}
 use Rattle.eval_questions.specs.Standing.{pieces-begin, pieces-end, node-given, reference-given}
 use Rattle.eval_pieces_joined.specs.Contracts.{Behind}
 use Rattle.eval_pieces_joined.specs.Several.{behind-left, inside, behind-next, behind-end}
-use Rattle.eval_ahead.specs.Contracts.{Starts, FirstIs, Found, MissedCase, MissedAsked, MissedIs, Passes, here, more, Stops, AheadIs}
+use Rattle.eval_ahead.specs.Contracts.{Starts, FirstIs, Found, FinishedAsked, FinishedIs, MissedCase, LackIs, MissedAsked, MissedIs, Passes, here, more, Stops, AheadIs}
 use Rattle.eval_ahead.specs.declared.Lack.{Lack}
 use Rattle.eval_ahead.specs.declared.Awaited.{Awaited}
+use Rattle.eval_ahead.proofs.Finished.{finished-asked}
 
 -- ---- where the looking begins
 
@@ -110,6 +113,25 @@ pub ruleset first-laws = (first-inside, first-none, first-one, first-two, first-
 
 -- ---- one piece
 
+module _ {T B E : List ℕ} {base : ℕ} {piece : Piece} {w w′ b a : List ℕ} {v : PieceValue} (A : PieceAsked B E w base b piece)
+    (k : PieceValueIs T B E base piece w w′ v b a) (l : length a ≡ length b) where
+  lack-by : (r : Lack) → ((key : ℕ → Text) (items : ℕ) (g : Given Answer) → ValueCase key items T g b a v → MissedCase g r) → LackIs T B E base piece w w′ a r
+  lack-by r f = record { left = k .left; whole = l ∙ A .value .whole; is = λ key items known g c. f key items g (k .is key items known g c) }
+
+  pub lack-needs : {d : ℕ} → v ≡ PieceValue.Needs d → LackIs T B E base piece w w′ a (Lack.Needs d)
+  lack-needs {d} z = lack-by (Lack.Needs d) (λ key items g c. rw z at c)
+
+  pub lack-done : {e : Extent} → v ≡ PieceValue.Done e → LackIs T B E base piece w w′ a Lack.Nothing
+  lack-done {e} z = lack-by Lack.Nothing (λ key items g c d m. let y : ValueCase key items T g b a (PieceValue.Done e) = rw z at c in clash (cc (y .is)))
+
+  pub lack-undefined : v ≡ PieceValue.Undefined → LackIs T B E base piece w w′ a Lack.Nothing
+  lack-undefined z = lack-by Lack.Nothing (λ key items g c d m. let y : g ≡ value none = rw z at c in clash (cc))
+
+  pub lack-required : {p : DocAt} → v ≡ PieceValue.Missing p → LackIs T B E base piece w w′ a Lack.Nothing
+  lack-required {p} z = lack-by Lack.Nothing (λ key items g c d m. let y : ValueCase key items T g b a (PieceValue.Missing p) = rw z at c in clash (cc))
+
+pub ruleset lack-laws = (lack-needs, lack-done, lack-undefined, lack-required)
+
 module _ {B E w b : List ℕ} {base item i : ℕ} (A : MissedAsked B E w b base item i) where
   pub missed-lent : Lent B E w base item i
   missed-lent =
@@ -134,50 +156,35 @@ module _ {B E w b : List ℕ} {base item i : ℕ} (A : MissedAsked B E w b base 
           inside = h .inside;
         }
 
-    module _ {w₂ a : List ℕ} {v : PieceValue} (k : PieceValueIs T B E base piece w₁ w₂ v b a) (l : length a ≡ length b) where
-      -- what the rules give for it
-      given : (x : Setting) (key : ℕ → Text) (items : ℕ) (S : Trail Answer) (q : ℕ) (u : Unresolved) (rest : Pieces)
-          → Questioned x key items T B E S base item q u → i < endC T item → Behind T (item + 1) (u .pieces) i rest
-          → ValueCase key items T (pieceIn x (lookup S) u rest) b a v
-      given x key items S q u no-pieces Q m H = absurd (omega (arith, pieces-end Q (behind-left Q H)))
-      given x key items S q u (nodePiece place gap n ps) Q m H =
-          k .is key items (lookup S) (nodeIn (lookup S) (valueIn (lookup S) 65) n) (h .literal key items (lookup S) n (node-given Q (behind-left Q H)))
-      given x key items S q u (substituted gap y ps) Q m H =
-          k .is key items (lookup S) (substitutionIn (lookup S) (x .document .root) 65 (x .environment) (openIn (lookup S) (u .openness)) y)
-          (h .reference x key items (lookup S) u y (reference-given Q (behind-left Q H)))
+    pub missed-near : FinishedAsked piece
+    missed-near = finished-asked base (length E) piece (h .inside)
 
-      left : Left base w w₂
-      left = left-then (record { below = same-below base w w₁ (h .same); len = h .len }) (k .left)
+    -- what the rules give for it
+    given : (x : Setting) (key : ℕ → Text) (items : ℕ) (S : Trail Answer) (q : ℕ) (u : Unresolved) (rest : Pieces)
+        → Questioned x key items T B E S base item q u → i < endC T item → Behind T (item + 1) (u .pieces) i rest
+        → PieceCase (answersOf key items T B) (lookup S) E w₁ (pieceIn x (lookup S) u rest) piece
+    given x key items S q u no-pieces Q m H = absurd (omega (arith, pieces-end Q (behind-left Q H)))
+    given x key items S q u (nodePiece place gap n ps) Q m H = h .literal key items (lookup S) n (node-given Q (behind-left Q H))
+    given x key items S q u (substituted gap y ps) Q m H = h .reference x key items (lookup S) u y (reference-given Q (behind-left Q H))
 
-      pub missed-needs : {d : ℕ} → v ≡ PieceValue.Needs d → MissedIs T B E base item i w w₂ a (Lack.Needs d)
-      missed-needs z = record {
-        left = left;
-        whole = l ∙ A .asked .whole;
-        is = λ x key items S q u rest Q m H. rw z at (given x key items S q u rest Q m H);
-      }
+    before : Left base w w₁
+    before = record { below = same-below base w w₁ (h .same); len = h .len }
 
-      found : ((x : Setting) (key : ℕ → Text) (items : ℕ) (S : Trail Answer) (q : ℕ) (u : Unresolved) (rest : Pieces)
-          → Questioned x key items T B E S base item q u → ValueCase key items T (pieceIn x (lookup S) u rest) b a v → Found (pieceIn x (lookup S) u rest))
-          → MissedIs T B E base item i w w₂ a Lack.Nothing
-      found f = record {
-        left = left;
-        whole = l ∙ A .asked .whole;
-        is = λ x key items S q u rest Q m H. f x key items S q u rest Q (given x key items S q u rest Q m H);
-      }
+    pub missed-finished : {r : Bool} → FinishedIs w₁ piece r → r ≡ true → MissedIs T B E base item i w w₁ b Lack.Nothing
+    missed-finished f z = record {
+      left = before;
+      whole = A .asked .whole;
+      is = λ x key items S q u rest Q m H. f .is z T B E key items (lookup S) (pieceIn x (lookup S) u rest) (given x key items S q u rest Q m H);
+    }
 
-      pub missed-done : {e : Extent} → v ≡ PieceValue.Done e → MissedIs T B E base item i w w₂ a Lack.Nothing
-      missed-done {e} z = found (λ x key items S q u rest Q c d g.
-          let y : ValueCase key items T (pieceIn x (lookup S) u rest) b a (PieceValue.Done e) = rw z at c in clash (cc (y .is)))
+    pub missed-lack : {w₂ a : List ℕ} {r : Lack} → LackIs T B E base piece w₁ w₂ a r → MissedIs T B E base item i w w₂ a r
+    missed-lack k = record {
+      left = left-then before (k .left);
+      whole = k .whole;
+      is = λ x key items S q u rest Q m H. k .is key items (lookup S) (pieceIn x (lookup S) u rest) (given x key items S q u rest Q m H);
+    }
 
-      pub missed-undefined : v ≡ PieceValue.Undefined → MissedIs T B E base item i w w₂ a Lack.Nothing
-      missed-undefined z = found (λ x key items S q u rest Q c d g.
-          let y : pieceIn x (lookup S) u rest ≡ value none = rw z at c in clash (cc))
-
-      pub missed-required : {p : DocAt} → v ≡ PieceValue.Missing p → MissedIs T B E base item i w w₂ a Lack.Nothing
-      missed-required {p} z = found (λ x key items S q u rest Q c d g.
-          let y : ValueCase key items T (pieceIn x (lookup S) u rest) b a (PieceValue.Missing p) = rw z at c in clash (cc))
-
-pub ruleset missed-laws = (missed-lent, missed-asked, missed-needs, missed-done, missed-undefined, missed-required)
+pub ruleset missed-laws = (missed-lent, missed-asked, missed-near, missed-finished, missed-lack)
 
 -- ---- the loop
 

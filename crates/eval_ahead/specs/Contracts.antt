@@ -1,6 +1,7 @@
 -- What looking ahead promises. Needs are those of the theory (Skeletons); a position among the pieces is eval_pieces_joined's `Behind`.
 use mathlib.Core.Path.{_≡_}
-use Prim.Native.Nat.{ℕ, _+_, _<_}
+use Prim.Native.Nat.{ℕ, _+_, _≤_, _<_}
+use mathlib.Core.Bool.{Bool, true}
 use mathlib.Core.List.{List}
 use mathlib.Core.Option.{Option}
 use Rattle.answers.specs.Ask.{Trail, lookup, missing}
@@ -13,8 +14,12 @@ use Rattle.rules.specs.Documents.{Setting}
 use Rattle.theory_order.specs.Skeletons.{restOf, needsOf, needsOfAll}
 use Rattle.theory_order.specs.Looking.{pieceIn}
 use Rattle.doc_items.specs.Room.{capacity}
+use Rattle.eval_stack.specs.Model.{entries}
+use Rattle.eval_state.specs.Memories.{answersOf}
 use Rattle.eval_writer.specs.Contracts.{Room}
 use Rattle.eval_value_laws.specs.Contracts.{Left}
+use Rattle.eval_pieces.specs.Contracts.{PieceCase}
+use Rattle.eval_pieces.specs.declared.Piece.{Piece}
 use Rattle.eval_piece_items.specs.Contracts.{endC}
 use Rattle.eval_questions.specs.Contracts.{Asked, Questioned}
 use Rattle.eval_pieces_joined.specs.Contracts.{Behind}
@@ -39,9 +44,30 @@ pub record FirstIs (T : List ℕ) (item r : ℕ) : Type 0 where
 abbrev pub Found : Given Answer → Type 0
 Found g = (d : ℕ) → g ≡ missing d → ⊥
 
+-- its objects stand on the stack
+abbrev pub OnStack : Piece → Type 0
+OnStack (Piece.Text start size) = Unit {0}
+OnStack Piece.Undefined = Unit {0}
+OnStack (Piece.One top c) = Unit {0}
+OnStack (Piece.Merged lo hi) = lo ≤ entries
+OnStack (Piece.Needs b) = Unit {0}
+OnStack (Piece.Missing place) = Unit {0}
+
+pub record FinishedAsked (piece : Piece) : Type 0 where
+  pub on : OnStack piece
+
+pub record FinishedIs (w : List ℕ) (piece : Piece) (r : Bool) : Type 0 where
+  pub is : r ≡ true → (T B E : List ℕ) (key : ℕ → Text) (items : ℕ) (known : ℕ → Option Answer) (g : Given Answer)
+      → PieceCase (answersOf key items T B) known E w g piece → Found g
+
 abbrev pub MissedCase : Given Answer → Lack → Type 0
 MissedCase g Lack.Nothing = Found g
 MissedCase g (Lack.Needs d) = g ≡ missing d
+
+pub record LackIs (T B E : List ℕ) (base : ℕ) (piece : Piece) (w w′ after : List ℕ) (r : Lack) : Type 0 where
+  pub left : Left base w w′
+  pub whole : Room after
+  pub is : (key : ℕ → Text) (items : ℕ) (known : ℕ → Option Answer) (g : Given Answer) → PieceCase (answersOf key items T B) known E w g piece → MissedCase g r
 
 pub record MissedAsked (B E w room : List ℕ) (base item i : ℕ) : Type 0 where
   pub asked : Asked B E w room base item

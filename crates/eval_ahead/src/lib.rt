@@ -1,14 +1,18 @@
 // What the pieces of an unresolved value need, from one on: looked for with no join between them.
 // Computes: the first missing answer of the pieces, as answers' fate
+use doc_items::CAPACITY;
 use eval_piece_items::next_piece;
 use eval_piece_items::pieces_end;
 use eval_piece_values::PieceValue;
 use eval_piece_values::value_of;
+use eval_pieces::Piece;
 use eval_pieces::piece_of;
+use eval_stack::code_at;
 ghost use Prim.Native.Nat.{_<_};
 ghost use Rattle.doc_items.specs.Room.{capacity};
 ghost use Rattle.eval_questions.specs.Contracts.{Asked};
-ghost use Rattle.eval_ahead.specs.Contracts.{FirstIs, MissedAsked, MissedIs, AheadIs};
+ghost use Rattle.eval_piece_values.specs.Contracts.{PieceAsked};
+ghost use Rattle.eval_ahead.specs.Contracts.{FirstIs, FinishedAsked, FinishedIs, LackIs, MissedAsked, MissedIs, AheadIs};
 
 /// What one piece misses.
 pub enum Lack {
@@ -44,7 +48,49 @@ pub fn first_piece(table: &[u16], item: usize) -> usize
     first
 }
 
-// The piece at item i alone; whatever else it comes to, nothing is missing.
+// Whether a piece is one finished value: nothing is missing in it, and it need not be written to know that.
+fn is_finished(work: &[u16], piece: Piece) -> bool
+    requires { ⌜ FinishedAsked piece ⌝ }
+    ensures { λ r. ⌜ FinishedIs (now (work .entry)) piece r ⌝ }
+{
+    match piece {
+        Piece::One { top, layer } => CAPACITY <= layer,
+        Piece::Merged { lo, hi } => {
+            if hi == lo + 1 {
+                return CAPACITY <= code_at(work, lo);
+            }
+            false
+        }
+        Piece::Text { start, size } => false,
+        Piece::Undefined => false,
+        Piece::Needs(b) => false,
+        Piece::Missing(place) => false,
+    }
+}
+
+// What a piece misses; whatever else it comes to, nothing is missing.
+fn lack_of(
+    table: &[u16],
+    bytes: &[u8],
+    env: &[u8],
+    work: &mut [u16],
+    base: usize,
+    room: &mut [u8],
+    piece: Piece,
+) -> Lack
+    requires { ⌜ PieceAsked (now bytes) (now env) (now work) base (now room) piece ⌝ }
+    ensures { λ r. ⌜ LackIs (now (table .entry)) (now (bytes .entry)) (now (env .entry)) base piece (now (work .entry)) (now (work .exit))
+        (now (room .exit)) r ⌝ }
+{
+    match value_of(table, bytes, env, work, base, room, piece) {
+        PieceValue::Needs(b) => Lack::Needs(b),
+        PieceValue::Done(e) => Lack::Nothing,
+        PieceValue::Undefined => Lack::Nothing,
+        PieceValue::Missing(place) => Lack::Nothing,
+    }
+}
+
+// The piece at item i alone.
 fn missed(
     table: &[u16],
     bytes: &[u8],
@@ -60,12 +106,10 @@ fn missed(
         (now (room .exit)) r ⌝ }
 {
     let piece = piece_of(table, bytes, env, work, base, item, i);
-    match value_of(table, bytes, env, work, base, room, piece) {
-        PieceValue::Needs(b) => Lack::Needs(b),
-        PieceValue::Done(e) => Lack::Nothing,
-        PieceValue::Undefined => Lack::Nothing,
-        PieceValue::Missing(place) => Lack::Nothing,
+    if is_finished(work, piece) {
+        return Lack::Nothing;
     }
+    lack_of(table, bytes, env, work, base, room, piece)
 }
 
 /// What the pieces of the unresolved value at an item miss, from the piece at an item on. The stack is free from base on.

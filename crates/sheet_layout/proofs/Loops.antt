@@ -113,7 +113,7 @@ module _ {form : Form} {s : List ℕ} {len p t : ℕ} {r : Record} (h : RecordIs
         record { is = i; laid = λ key v k. i ∙ laid-is key v s len k inside form t₀ b₀ room }
 
   module _ {b₀ : List ℕ} {t₀ : ℕ} {b : List ℕ} where
-    lay-step : Going sets form b₀ s len t₀ b p t → (n ≡ 0 → ⊥) → {b′ : List ℕ} → StoreIs p r b b′ → {m : ℕ} → TextLenIs r m → Going sets form b₀ s len t₀ b′ (p + n) (t + m)
+    pub lay-step : Going sets form b₀ s len t₀ b p t → (n ≡ 0 → ⊥) → {b′ : List ℕ} → StoreIs p r b b′ → {m : ℕ} → TextLenIs r m → Going sets form b₀ s len t₀ b′ (p + n) (t + m)
     lay-step I z {b′} w {m} k =
         going-step I z b′ m k (ap length (w .is) ∙ length-sets b p (codeOf r))
         (λ xs. sets-append b p (codeOf r) xs ∙ ap (λ (x : List ℕ). sets x (p + length (codeOf r)) xs) (sym (w .is)))
@@ -162,6 +162,6 @@ module _ {s : List ℕ} {len p t : ℕ} {r : Record} (h : RecordIs Form.Public s
               ∙ eqAt-append b p (codeOf r) (lays Form.Public f s len (p + sizeOf r) (t + textLenOf r))
               ∙ ap (λ (x : Bool). cond x (eqAt b (p + length (codeOf r)) (lays Form.Public f s len (p + sizeOf r) (t + textLenOf r))) false) (sym (w .is) ∙ y)
 
-pub ruleset lay-laws = (going-start, lay-end, lay-turn, turn-less, run-room, going-room, going-fits)
+pub ruleset lay-laws = (going-start, lay-end, lay-step, lay-turn, going-less, turn-less, run-room, going-room, going-fits)
 
 pub ruleset compare-laws = (going-start, compare-end, compare-differs, compare-step, going-less, going-room, going-fits)

@@ -17,6 +17,9 @@ ghost use Rattle.sheet_forms.specs.Model.{sizeOf};
 ghost use Rattle.sheet_layout.specs.Contracts.{Asked, SetIs, EqIs, StoreIs, SameIs, RunLaidIs, LayIs, SameRecordsIs};
 ghost use Rattle.sheet_forms.specs.declared.Form.{Form as Forms};
 
+// How many bytes a record has that is a kind alone. Only behind one a run is looked for, so that other records do not pay for it.
+const PLAIN: usize = 1;
+
 // ---- one record stored
 
 fn store_three(part: &mut [u8], p: usize, b: u8, c: u8, d: u8)
@@ -131,8 +134,11 @@ fn lay_form(room: &[u8], len: RecLen, form: Form, t: TextAt, part: &mut [u8])
         store(part, RecAt(p), r);
         let m = text_len(r);
         text += m.0;
-        let end = lay_run(room, len, RecAt(p + n.0), part);
-        p = end.0;
+        p += n.0;
+        if n.0 == PLAIN {
+            let end = lay_run(room, len, RecAt(p), part);
+            p = end.0;
+        }
     }
 }
 

@@ -29,4 +29,6 @@ lay-form-spec =
     (λ c. search lay-laws)
     (λ c κs. search lay-laws)
     (λ c. search lay-laws)
+    (λ c. search lay-laws)
+    (λ c. search lay-laws)
     (λ c. search lay-laws))
