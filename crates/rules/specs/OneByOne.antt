@@ -3,14 +3,21 @@
 use mathlib.Core.Path.{_≡_, refl}
 use Prim.Native.Nat.{ℕ}
 use Prim.Native.String.{String}
-use mathlib.Core.List.{[], _∷_}
+use mathlib.Core.List.{[], _∷_, _++_}
+use mathlib.Core.Bool.{false}
 use mathlib.Core.Option.{none, some}
-use Rattle.answers.specs.Ask.{Trail}
+use Rattle.answers.specs.Ask.{Trail, mem}
+use Rattle.rules.specs.Refusals.{resolveNumbers, checkNumbers, lookUpNumbers, lengthNumbers, spentFuel}
 use Rattle.rules.specs.Values.{Value, Answer}
 use Rattle.rules.specs.Jobs.{Resolved, resolveJob, lengthJob}
 use Rattle.rules.specs.Cases.{bytes, num, obj}
 use Rattle.rules.specs.Examples.{sent, verdictOn, chain, ones, asked, looked}
 use Rattle.rules.specs.LengthExamples.{Asked, long, refused}
+
+-- ---- the number of spent fuel is in no job's list, and not 0, which is success
+
+fuel-unlisted : mem spentFuel (0 ∷ resolveNumbers ++ checkNumbers ++ lookUpNumbers ++ lengthNumbers) ≡ false
+fuel-unlisted = refl
 
 -- ---- resolutions
 

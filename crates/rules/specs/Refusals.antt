@@ -59,10 +59,13 @@ abbrev pub placeOf : Refusal → ℕ
 placeOf (placed number place) = place
 placeOf (nowhere number) = 0
 
--- What a definition gives where its fuel runs out. The paper has no number 0, and no job gives this refusal (modules ReadingEnds,
--- Resolving and LookUps of `theory`).
+-- What a definition gives where its fuel runs out: a number of no job's list, and not 0, which is success. No job gives this refusal
+-- (modules ReadingEnds, Resolving and LookUps of `theory`).
+abbrev pub spentFuel : ℕ
+spentFuel = 63
+
 abbrev pub spent : Refusal
-spent = nowhere 0
+spent = nowhere spentFuel
 
 -- number 4 at the length: the end stands here
 abbrev pub ended : List ℕ → Refusal

@@ -11,7 +11,7 @@ use Rattle.answers.specs.Theory.Sound.{clash}
 use Rattle.answers.specs.Theory.Fuel.{Below}
 use Rattle.answers.specs.Theory.Invariant.{Every}
 use Rattle.rules.specs.Sizes.{maxNesting, maxRecords, maxText}
-use Rattle.rules.specs.Refusals.{Refusal, numberOf}
+use Rattle.rules.specs.Refusals.{Refusal, numberOf, spentFuel}
 use Rattle.rules.specs.Values.{Value, Answer, nestingOf, recordSize, textSize, withinSize}
 use Rattle.rules.specs.Layers.{Work}
 
@@ -32,10 +32,14 @@ nested v e = go (leb (nestingOf v) maxNesting) refl e
     go true h e = leb-true (nestingOf v) 32 h
     go false h e = clash (cc)
 
--- Only questions below N are needed and a result has Q. Where it is strict, answers are within their size and no refusal has number 0.
+-- an ordinary refusal: its number is not 0, which is success, and not that of spent fuel
+abbrev pub Ordinary : Refusal → Type 0
+Ordinary x = (1 ≤ numberOf x) × (numberOf x < spentFuel)
+
+-- Only questions below N are needed and a result has Q. Where it is strict, answers are within their size and every refusal is ordinary.
 pub data Ends (strict : Bool) (N : ℕ) {A : Type 0} (Q : A → Type 0) : Work A → Type 0 where
   dones : {a : A} → Q a → Ends strict N Q (done a)
-  refuses : {x : Refusal} → When strict (1 ≤ numberOf x) → Ends strict N Q (refused x)
+  refuses : {x : Refusal} → When strict (Ordinary x) → Ends strict N Q (refused x)
   needs : {b : ℕ} {f : Answer → Work A} → b < N → ((a : Answer) → When strict (WithinSize a) → Ends strict N Q (f a))
       → Ends strict N Q (need b f)
 
@@ -51,10 +55,10 @@ ends-below (dones p) = tt
 ends-below (refuses r) = tt
 ends-below (needs l f) = (l, λ a. ends-below (f a (λ e. clash (cc))))
 
--- what a run comes to: a value that has Q, a refusal with a number, or a missing answer
+-- what a run comes to: a value that has Q, an ordinary refusal, or a missing answer
 abbrev Lands : {A : Type 0} → (A → Type 0) → Out Refusal A → Type 0
 Lands Q (value a) = Q a
-Lands Q (refused x) = 1 ≤ numberOf x
+Lands Q (refused x) = Ordinary x
 Lands Q (missing b) = Unit {0}
 
 module _ {N : ℕ} {A : Type 0} {Q : A → Type 0} (S : Trail Answer) (every : Every WithinSize S) where
@@ -71,5 +75,5 @@ module _ {N : ℕ} {A : Type 0} {Q : A → Type 0} (S : Trail Answer) (every : E
   pub ends-value : {m : Work A} {a : A} → Ends true N Q m → run (lookup S) m ≡ value a → Q a
   ends-value e h = rw h at (lands e)
 
-  pub ends-refused : {m : Work A} {x : Refusal} → Ends true N Q m → run (lookup S) m ≡ refused x → 1 ≤ numberOf x
+  pub ends-refused : {m : Work A} {x : Refusal} → Ends true N Q m → run (lookup S) m ≡ refused x → Ordinary x
   ends-refused e h = rw h at (lands e)

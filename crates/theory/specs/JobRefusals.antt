@@ -16,7 +16,7 @@ use Rattle.answers.specs.Theory.Sound.{clash, mem-more, mem-cases}
 use Rattle.answers.specs.Theory.Holds.{Holds, dries}
 use Rattle.rules.specs.Sizes.{maxDocument, maxBudget, maxRoom, maxPathText}
 use Rattle.rules.specs.Bytes.{Text}
-use Rattle.rules.specs.Refusals.{Refusal, placed, nowhere, numberOf, placeOf, Scan, ok}
+use Rattle.rules.specs.Refusals.{Refusal, placed, nowhere, spentFuel, numberOf, placeOf, Scan, ok}
 use Rattle.rules.specs.Utf8.{illFormed}
 use Rattle.rules.specs.Environment.{Variable, entriesOf, textOf}
 use Rattle.rules.specs.Values.{Value, Answer, withinSize}
@@ -34,7 +34,7 @@ use Rattle.theory.specs.Scanning.{Among, readingNumbers}
 use Rattle.theory.specs.Numbering.{Prepared, prepared}
 use Rattle.theory.specs.Reach.{Each}
 use Rattle.theory.specs.ReadingEnds.{document-numbers}
-use Rattle.theory.specs.Resolving.{rootOf, resolve-ends, resolve-holds}
+use Rattle.theory.specs.Resolving.{rootOf, resolve-ordinary, resolve-holds}
 use Rattle.theory.specs.RuleRefusals.{Passes, Placed, places-any, resolve-fine}
 use Rattle.theory.specs.PathNumbers.{pathNumbers, path-text-numbers}
 use Rattle.theory.specs.LookUpSteps.{found-none, found-part}
@@ -49,7 +49,7 @@ abbrev pub resolvingNumbers : List ℕ
 resolvingNumbers = 9 ∷ 10 ∷ 11 ∷ 12 ∷ 13 ∷ 14 ∷ []
 
 abbrev numbered : Refusal → Bool
-numbered y = mem (numberOf y) (0 ∷ resolvingNumbers)
+numbered y = mem (numberOf y) (spentFuel ∷ resolvingNumbers)
 
 numbered-passes : Passes numbered (λ p. Unit {0})
 numbered-passes = record {
@@ -91,8 +91,8 @@ module _ (x : Setting) (p : Prepared (x .document)) (trailRoom textRoom budget :
   resolving-numbers =
       let any = any-placed (x .document .unresolved) in
       let among = resolve-fine numbered (λ q. Unit {0}) numbered-passes x p any trailRoom textRoom budget y e in
-      elim (mem-cases 0 resolvingNumbers (numberOf y) among) [
-        | inl z ↦ absurd (omega (arith, resolve-ends x p trailRoom textRoom budget y e))
+      elim (mem-cases spentFuel resolvingNumbers (numberOf y) among) [
+        | inl z ↦ absurd (omega (arith, z, resolve-ordinary x p trailRoom textRoom budget y e .1))
         | inr h ↦ h
       ]
 

@@ -13,7 +13,7 @@ use Rattle.answers.specs.Ask.{mem}
 use Rattle.answers.specs.Theory.Sound.{clash}
 use Rattle.rules.specs.Sizes.{maxNesting, maxRoom, maxPathText}
 use Rattle.rules.specs.Bytes.{Text, byteAt, same}
-use Rattle.rules.specs.Refusals.{lookUpNumbers, Refusal, placed, nowhere, numberOf, placeOf, Scan, ok, refused}
+use Rattle.rules.specs.Refusals.{lookUpNumbers, Refusal, placed, nowhere, spentFuel, numberOf, placeOf, Scan, ok, refused}
 use Rattle.rules.specs.Utf8.{illFormed}
 use Rattle.rules.specs.Paths.{pathText}
 use Rattle.rules.specs.Sheet.{pairAt}
@@ -170,7 +170,7 @@ module _ (table text path : List ℕ) where
   found-in none = nowhere-in 16
   found-in (some at) =
       by-option (PlaceIn path) (afterValue maxNesting table (length text) at)
-      (λ e. nowhere-in 0) (λ end e. record { inPath = omega arith; allowed = omega arith })
+      (λ e. nowhere-in spentFuel) (λ end e. record { inPath = omega arith; allowed = omega arith })
 
   path-in : (m : Scan (List Text)) → pathText path ≡ m → length path ≤ maxPathText → PlaceIn path (lookedUp table text m)
   unfolding lookedUp

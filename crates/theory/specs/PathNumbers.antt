@@ -1,16 +1,16 @@
 -- "(6 is not given there)": the numbers that reading a look-up's path text gives.
-use mathlib.Core.Path.{_≡_, refl}
+use mathlib.Core.Path.{_≡_, refl, ap, _∙_}
 use Prim.Native.Nat.{ℕ, zero, suc, _+_, _*_}
 use mathlib.Core.Bool.{false, _||_}
 use mathlib.Core.List.{List, [], _∷_}
 use mathlib.Core.Logic.{inl, inr}
-use native.Mathlib.Omega.{arith}
 use lib.Dec.{leb, ltb, eqb}
 use lib.ListN.{length, getElem?}
-use Rattle.answers.specs.Theory.Sound.{mem-cases}
+use Rattle.answers.specs.Ask.{mem}
+use Rattle.answers.specs.Theory.Sound.{clash, mem-cases}
 use Rattle.rules.specs.Sizes.{maxPath}
 use Rattle.rules.specs.Bytes.{Text, byteAt}
-use Rattle.rules.specs.Refusals.{Refusal, numberOf, Scan, ok, refused, andThen}
+use Rattle.rules.specs.Refusals.{Refusal, spentFuel, numberOf, Scan, ok, refused, andThen}
 use Rattle.rules.specs.Characters.{nextPlace, afterInline}
 use Rattle.rules.specs.Numbers.{isDigit, afterNumber}
 use Rattle.rules.specs.Strings.{hexDigit, hexFrom, expect, mateOf, unicodeEscape, letterEscape, escapeAt}
@@ -18,16 +18,16 @@ use Rattle.rules.specs.Strings.{prepend, bodyFrom, threeQuotes, isLow, isHigh, 
 use Rattle.rules.specs.Pieces.{startsSimple, wordTrue, wordFalse, wordNull, startsWith, unquotedAt, simpleAt}
 use Rattle.rules.specs.Paths.{segmentsFrom, segmentsAt, Element, elementsOf, anyEmpty, judge, judged, pathText}
 use Rattle.theory_text.specs.Choices.{by-test, by-option}
-use Rattle.theory.specs.Scanning.{Among}
-use Rattle.theory.specs.PathsEnd.{path-ends}
+use Rattle.theory.specs.Scanning.{Among, readingNumbers}
+use Rattle.theory.specs.PathsEnd.{path-numbers}
 
 abbrev pub pathNumbers : List ℕ
 pathNumbers = 3 ∷ 4 ∷ 5 ∷ 7 ∷ 8 ∷ []
 
--- a refusal is by one of these; the 0 of fuel that runs out is not shut out here, but in module PathsEnd
+-- a refusal is by one of these; the number of fuel that runs out is not shut out here, but in module PathsEnd
 abbrev Refuses : {A : Type 0} → Scan A → Type 0
 Refuses (ok a end) = Unit {0}
-Refuses (refused x) = Among (0 ∷ pathNumbers) x
+Refuses (refused x) = Among (spentFuel ∷ pathNumbers) x
 
 then-refuses : {A B : Type 0} (m : Scan A) (k : A → ℕ → Scan B) → Refuses m → ((a : A) (end : ℕ) → Refuses (k a end)) → Refuses (andThen m k)
 then-refuses (ok a end) k h f = f a end
@@ -127,4 +127,7 @@ module _ (s : List ℕ) where
   -- a path text is refused by 3, 4, 5, 7 or 8: never by 6 or 11, and its reading does not run out of fuel
   pub path-text-numbers : (x : Refusal) → pathText s ≡ refused x → Among pathNumbers x
   path-text-numbers x e =
-      elim (mem-cases 0 pathNumbers (numberOf x) (rw e at path-refuses)) [ inl z ↦ absurd (omega (arith, path-ends s x e)) | inr h ↦ h ]
+      elim (mem-cases spentFuel pathNumbers (numberOf x) (rw e at path-refuses)) [
+        | inl z ↦ clash (cc (ap (λ i. mem i readingNumbers) z ∙ path-numbers s x e))
+        | inr h ↦ h
+      ]

@@ -9,13 +9,13 @@ use lib.Dec.{leb, ltb, eqb}
 use lib.ListN.{length, getElem?}
 use Rattle.rules.specs.Sizes.{maxPath}
 use Rattle.rules.specs.Bytes.{byteAt}
-use Rattle.rules.specs.Refusals.{Refusal, numberOf, notAllowed, refused}
+use Rattle.rules.specs.Refusals.{Refusal, notAllowed, refused}
 use Rattle.rules.specs.Characters.{afterInline}
 use Rattle.rules.specs.Pieces.{startsSimple}
 use Rattle.rules.specs.Paths.{segmentsFrom, segmentsAt, Element, elementsOf, anyEmpty, judge, judged, braced, substitutionAt, pathText}
 use Rattle.theory_text.specs.Choices.{by-test, by-option, getElem-none}
 use Rattle.theory_text.specs.Places.{inline-reached}
-use Rattle.theory.specs.Scanning.{among-some, readingNumbers, Numbered, Scans, scan-refuses, scan-refused, From, to, then-scans, scans-from, simple-inside, simple-scans}
+use Rattle.theory.specs.Scanning.{Numbered, Scans, scan-refuses, scan-refused, From, to, then-scans, scans-from, simple-inside, simple-scans}
 
 -- ---- what is judged
 
@@ -87,6 +87,3 @@ module _ (s : List ℕ) where
 
 pub path-numbers : (s : List ℕ) (x : Refusal) → pathText s ≡ refused x → Numbered x
 path-numbers s x e = scan-refused (rw e at (path-scans s))
-
-pub path-ends : (s : List ℕ) (x : Refusal) → pathText s ≡ refused x → 1 ≤ numberOf x
-path-ends s x e = among-some readingNumbers refl x (path-numbers s x e)

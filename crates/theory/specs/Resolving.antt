@@ -4,14 +4,16 @@ use Prim.Native.Nat.{ℕ, zero, suc, _≤_, _<_}
 use mathlib.Core.Bool.{Bool, true, false}
 use mathlib.Core.Option.{Option, none, some}
 use native.Mathlib.Omega.{arith}
+use lib.Dec.{ltb}
 use lib.ListN.{getElem?}
+use borrow.Author.Tests.{ltb-true, ltb-false}
 use Rattle.answers.specs.Ask.{refused, value, run, Trail, lookup}
 use Rattle.answers.specs.Resolve.{Res, refused, Laid, resolve}
 use Rattle.answers.specs.Theory.Sound.{clash}
 use Rattle.answers.specs.Theory.Holds.{Holds, answers, refuses, dries, Wet}
 use Rattle.answers.specs.Theory.Fuel.{Below, Closed, resolve-wet}
 use Rattle.answers.specs.Theory.Invariant.{Every, Preserves, laid-all, never}
-use Rattle.rules.specs.Refusals.{Refusal, spent, numberOf}
+use Rattle.rules.specs.Refusals.{Refusal, spent, spentFuel, numberOf}
 use Rattle.rules.specs.Values.{Value, Answer}
 use Rattle.rules.specs.Layers.{Work}
 use Rattle.rules.specs.Unresolved.{Unresolved, answerOf, rootValue}
@@ -19,7 +21,7 @@ use Rattle.rules.specs.Documents.{Setting, ruleOf, countOf}
 use Rattle.rules.specs.Jobs.{orderOf}
 use Rattle.theory_text.specs.Choices.{getElem-length, getElem-none}
 use Rattle.theory.specs.Numbering.{Prepared, numbers-below}
-use Rattle.theory.specs.Ends.{When, WithinSize, Ends, refuses, ends-below, ends-value, ends-refused}
+use Rattle.theory.specs.Ends.{When, WithinSize, Ordinary, Ends, refuses, ends-below, ends-value, ends-refused}
 use Rattle.theory.specs.Reach.{Each, each-at, Quiet}
 use Rattle.theory.specs.Rules.{top, Listed, all-listed, answer-ends, root-ends}
 
@@ -77,10 +79,10 @@ module _ (x : Setting) (p : Prepared (x .document)) where
           | past k rule ↦ clash (cc (ap (run (lookup S)) rule))
         ]
 
-    pub rule-numbered : (b : ℕ) → b < countOf x → (y : Refusal) → run (lookup S) (ruleOf x b) ≡ refused y → 1 ≤ numberOf y
+    pub rule-numbered : (b : ℕ) → b < countOf x → (y : Refusal) → run (lookup S) (ruleOf x b) ≡ refused y → Ordinary y
     rule-numbered b l y e = ends-refused S every (rule-well true b (λ _. l)) e
 
-    pub root-numbered : (y : Refusal) → run (lookup S) (rootOf x) ≡ refused y → 1 ≤ numberOf y
+    pub root-numbered : (y : Refusal) → run (lookup S) (rootOf x) ≡ refused y → Ordinary y
     root-numbered y e = ends-refused S every (root-well true) e
 
   -- ---- the resolution
@@ -99,16 +101,24 @@ module _ (x : Setting) (p : Prepared (x .document)) where
     laid-within = laid-all (orderOf x trailRoom textRoom) WithinSize preserves
 
     module _ (budget : ℕ) where
-      pub resolve-ends : (y : Refusal) → resolve (orderOf x trailRoom textRoom) budget (rootOf x) (countOf x) ≡ refused y → 1 ≤ numberOf y
+      pub resolve-ordinary : (y : Refusal) → resolve (orderOf x trailRoom textRoom) budget (rootOf x) (countOf x) ≡ refused y → Ordinary y
       unfolding orderOf
-      resolve-ends y e = go (numberOf y) refl
+      resolve-ordinary y e = go (numberOf y) refl (ltb (numberOf y) spentFuel) refl
         where
-          go : (n : ℕ) → numberOf y ≡ n → 1 ≤ n
-          go zero z =
-              absurd (never (orderOf x trailRoom textRoom) WithinSize preserves budget (rootOf x) (countOf x) closed root-below y
-              (λ b c. let d = ap numberOf c in omega arith) (λ b c. let d = ap numberOf c in omega arith) (λ c. let d = ap numberOf c in omega arith)
-              (λ S every b l r. omega (arith, rule-numbered S every b l y r)) (λ S every r. omega (arith, root-numbered S every y r)) e)
-          go (suc n) z = omega arith
+          not-otherwise : (Ordinary y → ⊥) → ⊥
+          not-otherwise h =
+              never (orderOf x trailRoom textRoom) WithinSize preserves budget (rootOf x) (countOf x) closed root-below y
+              (λ b c. let d = ap numberOf c in h (omega arith, omega arith)) (λ b c. let d = ap numberOf c in h (omega arith, omega arith))
+              (λ c. let d = ap numberOf c in h (omega arith, omega arith))
+              (λ S every b l r. h (rule-numbered S every b l y r)) (λ S every r. h (root-numbered S every y r)) e
+
+          go : (n : ℕ) → numberOf y ≡ n → (t : Bool) → ltb (numberOf y) spentFuel ≡ t → Ordinary y
+          go zero z t f = absurd (not-otherwise (λ o. absurd (omega (arith, z, o .0))))
+          go (suc n) z true f = (omega arith, ltb-true (numberOf y) spentFuel f)
+          go (suc n) z false f = absurd (not-otherwise (λ o. absurd (omega (arith, o .1, ltb-false (numberOf y) spentFuel f))))
+
+      pub resolve-ends : (y : Refusal) → resolve (orderOf x trailRoom textRoom) budget (rootOf x) (countOf x) ≡ refused y → 1 ≤ numberOf y
+      resolve-ends y e = resolve-ordinary y e .0
 
       -- an answer, or a refusal with a number; never out of fuel
       pub resolve-holds : Holds (λ y. 1 ≤ numberOf y) ⊥ (λ v S n. Unit {0}) (resolve (orderOf x trailRoom textRoom) budget (rootOf x) (countOf x))

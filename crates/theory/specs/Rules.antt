@@ -8,20 +8,20 @@ use mathlib.Core.Option.{Option, none, some}
 use native.Mathlib.Omega.{arith}
 use Rattle.answers.specs.Ask.{done, refused}
 use Rattle.rules.specs.Bytes.{Text}
-use Rattle.rules.specs.Refusals.{Refusal, placed, nowhere, numberOf}
+use Rattle.rules.specs.Refusals.{Refusal, placed, nowhere}
 use Rattle.rules.specs.Environment.{Environment}
 use Rattle.rules.specs.Tree.{string, Key, Substitution, Node, simple, array, object, unresolved, Elements, no-elements, element, Fields, no-fields, field, Pieces, no-pieces, nodePiece, substituted, Root, fields, elements, rootNode, heightOf, highestField, highestElement, highestPiece}
 use Rattle.rules.specs.Values.{Value, scalar, arrayOf, objectOf, Answer, withinSize}
 use Rattle.rules.specs.Layers.{Work, written, Layers, end, layer, deeper, walkPath, valueOf}
 use Rattle.rules.specs.Unresolved.{Open, Unresolved, Openness, fieldOpenness, withField, inNode, inElements, inFields, inPieces, unresolvedIn, behind, forward, layersFor, dotted, orEnvironment, Join, blank, text, joinedArray, joinedObject, joinValue, joinNothing, joinAnswer, sized, joinPiece, depthOf, evaluate, substitutionValue, several, answerOf, rootValue}
 use Rattle.rules.specs.Tree.{AllNode, AllElements, AllFields, AllPieces}
-use Rattle.theory.specs.Ends.{When, WithinSize, Ends, dones, refuses, ends-bind}
+use Rattle.theory.specs.Ends.{When, WithinSize, Ordinary, Ends, dones, refuses, ends-bind}
 use Rattle.theory.specs.Reach.{Each, each-append, InRange, AllLow, all-low-up, named-low, deeper-low, path-low, Quiet, node-ends, elements-end, merged-ends, value-ends}
 
 -- ---- sizes and joins
 
 module _ (strict : Bool) (N : ℕ) where
-  refused-with : {A : Type 0} {Q : A → Type 0} (x : Refusal) → 1 ≤ numberOf x → Ends strict N Q (refused x)
+  refused-with : {A : Type 0} {Q : A → Type 0} (x : Refusal) → Ordinary x → Ends strict N Q (refused x)
   refused-with x l = refuses (λ e. l)
 
   sized-ends : {A : Type 0} (Q : A → Type 0) (o : Answer) (a : A) → (When strict (WithinSize o) → Q a) → Ends strict N Q (sized o a)
@@ -31,22 +31,22 @@ module _ (strict : Bool) (N : ℕ) where
     where
       go : (t : Bool) → withinSize v ≡ t → Ends strict N Q (elim t as (λ _. Work A) [ true ↦ done a | false ↦ refused (nowhere 13) ])
       go true w = dones (h (λ e. w))
-      go false w = refused-with (nowhere 13) (omega arith)
+      go false w = refused-with (nowhere 13) (omega arith, omega arith)
 
   -- number 11 or a join
   value-joins : (place : ℕ) (gap : Text) (v : Value) (j : Join) → Quiet strict N (joinValue place gap v j)
   unfolding joinValue
   value-joins place gap (scalar x) (blank t) = dones tt
   value-joins place gap (scalar x) (text t) = dones tt
-  value-joins place gap (scalar x) (joinedArray vs) = refused-with (placed 11 place) (omega arith)
-  value-joins place gap (scalar x) (joinedObject ms) = refused-with (placed 11 place) (omega arith)
+  value-joins place gap (scalar x) (joinedArray vs) = refused-with (placed 11 place) (omega arith, omega arith)
+  value-joins place gap (scalar x) (joinedObject ms) = refused-with (placed 11 place) (omega arith, omega arith)
   value-joins place gap (arrayOf ws) (blank t) = dones tt
-  value-joins place gap (arrayOf ws) (text t) = refused-with (placed 11 place) (omega arith)
+  value-joins place gap (arrayOf ws) (text t) = refused-with (placed 11 place) (omega arith, omega arith)
   value-joins place gap (arrayOf ws) (joinedArray vs) = dones tt
-  value-joins place gap (arrayOf ws) (joinedObject ms) = refused-with (placed 11 place) (omega arith)
+  value-joins place gap (arrayOf ws) (joinedObject ms) = refused-with (placed 11 place) (omega arith, omega arith)
   value-joins place gap (objectOf ns) (blank t) = dones tt
-  value-joins place gap (objectOf ns) (text t) = refused-with (placed 11 place) (omega arith)
-  value-joins place gap (objectOf ns) (joinedArray vs) = refused-with (placed 11 place) (omega arith)
+  value-joins place gap (objectOf ns) (text t) = refused-with (placed 11 place) (omega arith, omega arith)
+  value-joins place gap (objectOf ns) (joinedArray vs) = refused-with (placed 11 place) (omega arith, omega arith)
   value-joins place gap (objectOf ns) (joinedObject ms) = dones tt
 
   -- the join so far is within its size
@@ -71,7 +71,7 @@ module _ (strict : Bool) (N : ℕ) where
       ])
       go (some s) t = dones tt
       go none true = dones tt
-      go none false = refused-with (placed 9 (x .place)) (omega arith)
+      go none false = refused-with (placed 9 (x .place)) (omega arith, omega arith)
 
 -- ---- the list of unresolved values: their pieces and the layers before them, of a height
 

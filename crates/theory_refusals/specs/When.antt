@@ -21,7 +21,7 @@ use Rattle.rules.specs.Documents.{Setting, valid, refused, inputs, ruleOf, coun
 use Rattle.rules.specs.Sheet.{trailSize, trailTextSize, trailFits, tableFits}
 use Rattle.rules.specs.Jobs.{Resolved, refusedWith, roomOf, orderOf, handedBack, resolved, resolveJob}
 use Rattle.theory.specs.Numbering.{prepared}
-use Rattle.theory.specs.Resolving.{RuleCase, ruled, past, rule-case, rootOf, closed, root-below, resolve-ends, resolve-holds}
+use Rattle.theory.specs.Resolving.{RuleCase, ruled, past, rule-case, rootOf, closed, root-below, resolve-ordinary, resolve-holds}
 use Rattle.theory.specs.RuleRefusals.{only-refused, root-only}
 use Rattle.theory.specs.BothJobs.{trailFits-inv, trailFits-intro, tableFits-inv, tableFits-intro}
 use Rattle.theory_refusals.specs.WorkingOrder as order
@@ -204,8 +204,8 @@ module _ (document environment : List ℕ) (budget trailLength tableLength textL
       fueled : (y : Refusal) → resolution ≡ Res.refused y → y ≡ spent → ⊥
       fueled y e z =
           let p = prepared true document environment x read in
-          let some-number = resolve-ends x p (roomOf trailLength) (roomOf textLength) budget y e in
-          absurd (omega (arith, some-number, ap numberOf z))
+          let ordinary = resolve-ordinary x p (roomOf trailLength) (roomOf textLength) budget y e in
+          absurd (omega (arith, ordinary .1, ap numberOf z))
 
       found : {k p : ℕ} → job .number ≡ k → job .place ≡ p → Reason x budget trailLength tableLength textLength k p
           → Reason x budget trailLength tableLength textLength number place
