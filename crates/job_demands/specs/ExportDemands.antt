@@ -5,7 +5,7 @@
 -- and f and are b′, c′ and f′, and r are the 64 bits. What the header's functions take out of them is `bits.numberIn r` (dz_number),
 -- `bits.placeIn r` (dz_place), `bits.countIn r` (dz_resolve_count) and so on; the sheet handed back is as many bytes of each buffer as they
 -- say.
-use mathlib.Core.Path.{_≡_, refl, sym, ap, subst, _∙_}
+use mathlib.Core.Path.{_≡_, refl, sym, ap, _∙_}
 use Prim.Native.Nat.{ℕ, _+_, _*_, _≤_}
 use mathlib.Core.List.{List}
 use mathlib.Core.Bool.{true}
@@ -19,10 +19,10 @@ use Rattle.answers.specs.Ask.{Trail}
 use Rattle.answers.specs.Resolve.{answer, resolve, Accepts}
 use Rattle.rules.specs.Sizes.{maxPathText}
 use Rattle.rules.specs.Bytes.{Text, At}
-use Rattle.rules.specs.Refusals.{resolveNumbers, checkNumbers, lookUpNumbers, lengthNumbers, nowhere, ok}
+use Rattle.rules.specs.Refusals.{resolveNumbers, checkNumbers, lookUpNumbers, lengthNumbers, ok}
 use Rattle.rules.specs.Utf8.{illFormed}
 use Rattle.rules.specs.Paths.{pathText}
-use Rattle.rules.specs.Values.{Value, Answer, withinSize, recordSize}
+use Rattle.rules.specs.Values.{Value, Answer, withinSize}
 use Rattle.rules.specs.Unresolved.{rootValue}
 use Rattle.rules.specs.Documents.{Setting, valid, inputs, countOf}
 use Rattle.rules.specs.Sheet.{records, texts}
@@ -37,7 +37,7 @@ use Rattle.theory.specs.Micrometres.{Exact}
 use Rattle.theory.specs.Demands as demands
 use Rattle.theory.specs.Promises as promises
 use Rattle.theory.specs.Promises.{OneOf, Refuses, FoundIn}
-use Rattle.job_resolved.specs.Answers.{Told, resolvedTold, packedResolution, packedVerdict}
+use Rattle.job_resolved.specs.Answers.{resolvedTold, packedVerdict}
 use Rattle.job_resolved.specs.Unpacking as bits
 use Rattle.job_resolved.specs.Bits.{resolve-unpacks, check-unpacks}
 use Rattle.job_resolved.specs.Contracts.{PackedResolveIs}

@@ -59,8 +59,8 @@ abbrev pub placeOf : Refusal → ℕ
 placeOf (placed number place) = place
 placeOf (nowhere number) = 0
 
--- What a definition gives where its fuel runs out: a number of no job's list, and not 0, which is success. No job gives this refusal (modules
--- ReadingEnds, Resolving and LookUps of `theory`).
+-- What a definition gives where its fuel runs out: a number of no job's list, and not 0, which is success. No job gives this refusal
+-- (modules ReadingEnds, Resolving and LookUps of `theory`).
 abbrev pub spentFuel : ℕ
 spentFuel = 63
 

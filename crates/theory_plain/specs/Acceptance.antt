@@ -1,6 +1,6 @@
 -- What is accepted, part by part of document 01's sentence. `rules` finds the entries out of the trail's numbers (Checking, `entriesFrom`),
 -- so that it can be computed; here they are said to be there.
-use mathlib.Core.Path.{_≡_, refl, sym, ap, _∙_}
+use mathlib.Core.Path.{_≡_, sym, ap, _∙_}
 use Prim.Native.Nat.{ℕ, _+_, _-_, _≤_}
 use mathlib.Core.List.{List, [], _∷_, _++_, append-nil}
 use mathlib.Core.Bool.{true}
@@ -16,8 +16,8 @@ use Rattle.rules.specs.Sheet.{records, texts, trailSize, trailTextSize, trailRe
 use Rattle.rules.specs.Checking.{entriesFrom, accepted}
 use Rattle.rules.specs.Jobs.{orderOf}
 use Rattle.theory.specs.Layout.{Numbered, length-trailRecords, length-trail}
-use Rattle.theory.specs.Entries.{rootOf, order-rule, entries-end, entries-laid, entries-of, SheetOf}
-use Rattle.theory.specs.Accepted.{laid-numbered, accepted-iff}
+use Rattle.theory.specs.Entries.{rootOf, order-rule, entries-end, entries-laid, entries-of}
+use Rattle.theory.specs.Accepted.{accepted-iff}
 
 -- "each entry is what the rules give its blend with all needed blends taken from earlier entries": behind an entry stand the earlier ones
 abbrev pub ByRules : Setting → Trail Answer → Type 0

@@ -1,6 +1,6 @@
 -- The elements of a key or path: "simple pieces joined as text, then split at each dot not inside quotes". `rules` does both in one walk
 -- over the pieces (Paths, `splitText` and `splitFrom`); here the text is finished first.
-use mathlib.Core.Path.{_≡_, refl, ap, _∙_}
+use mathlib.Core.Path.{_≡_, refl, ap}
 use Prim.Native.Nat.{ℕ, _+_}
 use mathlib.Core.List.{List, [], _∷_, _++_}
 use mathlib.Core.Bool.{Bool, true, false}

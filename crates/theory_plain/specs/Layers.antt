@@ -5,9 +5,8 @@ use Prim.Native.Nat.{ℕ}
 use mathlib.Core.List.{List, [], _∷_, _++_, reverseAux, append-assoc, append-nil}
 use mathlib.Core.Bool.{Bool, true, false}
 use mathlib.Core.Option.{Option, none, some}
-use Rattle.answers.specs.Ask.{Out, value, run}
+use Rattle.answers.specs.Ask.{value, run}
 use Rattle.rules.specs.Bytes.{Text, same}
-use Rattle.rules.specs.Refusals.{Refusal}
 use Rattle.rules.specs.Tree.{Node, simple, array, object, unresolved, Fields, no-fields, field}
 use Rattle.rules.specs.Values.{Value, scalar, arrayOf, objectOf, Members, no-members, member, Answer}
 use Rattle.rules.specs.Layers.{Work, Layer, written, settled, Layers, end, layer, wait}

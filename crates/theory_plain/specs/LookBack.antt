@@ -10,7 +10,7 @@ use Rattle.rules.specs.Tree.{Key, Fields, Root, rootNode}
 use Rattle.rules.specs.Layers.{Layers, end, named, deeper, walkPath}
 use Rattle.rules.specs.Unresolved.{Unresolved, Openness, fieldOpenness, unresolvedIn, behind, forward, layersFor}
 use Rattle.theory_back.specs.Descent.{downNode, seen-node}
-use Rattle.theory_back.specs.Openness.{rootOpenness, opennessAt, openness-of}
+use Rattle.theory_back.specs.Openness.{openness-of}
 
 -- a field that is entered: its key, and the fields of its literal before it
 pub record Entered : Type 0 where

@@ -5,7 +5,7 @@ use mathlib.Core.Bool.{Bool, true, false}
 use mathlib.Core.List.{[]}
 use mathlib.Core.Option.{Option, none, some}
 use mathlib.Core.Logic.{_⊎_, inl, inr, _↔_}
-use Rattle.answers.specs.Ask.{Ask, done, refused, bind, Out, value, missing, run, then}
+use Rattle.answers.specs.Ask.{done, refused, bind, Out, value, missing, run, then}
 use Rattle.answers.specs.Theory.Sound.{clash}
 use Rattle.answers.specs.Theory.Bind.{run-bind}
 use Rattle.rules.specs.Bytes.{Text}

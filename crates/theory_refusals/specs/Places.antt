@@ -9,7 +9,7 @@ use lib.Dec.{leb}
 use lib.ListN.{length}
 use borrow.Author.Tests.{leb-true}
 use Rattle.answers.specs.Ask.{mem}
-use Rattle.answers.specs.Theory.Sound.{clash, All, mem-cases, mem-more}
+use Rattle.answers.specs.Theory.Sound.{clash, All, mem-cases}
 use Rattle.rules.specs.Sizes.{maxBudget, maxNesting, maxRoom, maxPathText}
 use Rattle.rules.specs.Bytes.{Text}
 use Rattle.rules.specs.Refusals.{Refusal, nowhere, numberOf, placeOf, Scan, ok}
@@ -17,9 +17,9 @@ use Rattle.rules.specs.Utf8.{illFormed}
 use Rattle.rules.specs.Paths.{pathText}
 use Rattle.rules.specs.Documents.{Setting, valid, refused, inputs}
 use Rattle.rules.specs.LookUp.{isWhole, afterValue, valueNamed}
-use Rattle.rules.specs.Jobs.{Resolved, refusedWith, resolveJob, Verdict, checkJob, Found, notFound, foundAt, lookedUp, lookUpJob}
+use Rattle.rules.specs.Jobs.{Resolved, refusedWith, resolveJob, checkJob, Found, notFound, foundAt, lookedUp, lookUpJob}
 use Rattle.theory_text.specs.Choices.{by-test, by-option}
-use Rattle.theory.specs.Scanning.{Among, readingNumbers}
+use Rattle.theory.specs.Scanning.{readingNumbers}
 use Rattle.theory.specs.ReadingEnds.{inputs-numbers}
 use Rattle.theory.specs.PathNumbers.{pathNumbers, path-text-numbers}
 use Rattle.theory.specs.JobRefusals.{Bounds, bad, good, bounds, resolvingNumbers, Outcome, unread, stopped, succeeded, outcome}

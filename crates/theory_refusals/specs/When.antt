@@ -4,12 +4,11 @@ use mathlib.Core.Path.{_≡_, refl, sym, ap, _∙_}
 use Prim.Native.Nat.{ℕ, _+_, _≤_}
 use mathlib.Core.Bool.{Bool, true, false}
 use mathlib.Core.List.{List, [], _∷_}
-use mathlib.Core.Option.{none, some}
+use mathlib.Core.Option.{some}
 use mathlib.Core.Logic.{_⊎_, inl, inr, _↔_}
 use native.Mathlib.Omega.{arith}
-use lib.Dec.{leb}
 use lib.ListN.{getElem?}
-use borrow.Author.Tests.{le-leb, leb-true}
+use borrow.Author.Tests.{le-leb}
 use Rattle.answers.specs.Ask.{Out, value, run, Trail, lookup, mem}
 use Rattle.answers.specs.Resolve.{Res, answer, dry, resolve, Rules}
 use Rattle.answers.specs.Theory.Sound.{clash}
@@ -24,7 +23,7 @@ use Rattle.rules.specs.Jobs.{Resolved, refusedWith, roomOf, orderOf, handedBack
 use Rattle.theory.specs.Numbering.{prepared}
 use Rattle.theory.specs.Resolving.{RuleCase, ruled, past, rule-case, rootOf, closed, root-below, resolve-ordinary, resolve-holds}
 use Rattle.theory.specs.RuleRefusals.{only-refused, root-only}
-use Rattle.theory.specs.BothJobs.{trailFits-inv, trailFits-intro, tableFits-inv, tableFits-intro, order-fits}
+use Rattle.theory.specs.BothJobs.{trailFits-inv, trailFits-intro, tableFits-inv, tableFits-intro}
 use Rattle.theory_refusals.specs.WorkingOrder as order
 use Rattle.theory_refusals.specs.Pieces as pieces
 

@@ -9,11 +9,11 @@ use mathlib.Core.Logic.{_↔_}
 use native.Mathlib.Omega.{arith}
 use lib.ListN.{length}
 use lib.Dec.{ltb}
-use borrow.Author.Tests.{ltb-true, ltb-false, lt-ltb, le-ltb}
+use borrow.Author.Tests.{ltb-false, lt-ltb, le-ltb}
 use Rattle.answers.specs.Ask.{Ask, Out, value, refused, missing, run, Trail, lookup, mem}
-use Rattle.answers.specs.Resolve.{Rules, Res, answer, refused, dry, after, bar, lay, resolve}
+use Rattle.answers.specs.Resolve.{Rules, Res, answer, refused, after, bar, lay, resolve}
 use Rattle.answers.specs.Theory.Restarts.{react, unless, machine}
-use Rattle.answers.specs.Theory.Holds.{Holds, answers, refuses, dries, Wet, of-answer}
+use Rattle.answers.specs.Theory.Holds.{Holds, answers, dries, Wet, of-answer}
 use Rattle.answers.specs.Theory.Holds.{holds-refused, after-holds, react-holds, unless-holds, laid-holds}
 use Rattle.answers.specs.Theory.Sound.{clash, bar-none}
 use Rattle.answers.specs.Theory.Fuel.{Below, Closed, resolve-wet}
