@@ -51,6 +51,12 @@ pub fn hidden(pieces: usize, count: usize, nulls_deep: usize, levels: usize) -> 
         + &format!("v=1\nr={{z=1{unresolved}}}\n")
 }
 
+/// `e` is an array of some multiple of 500 small values: empty arrays, empty objects, arrays of one null, or empty strings.
+fn small_values(count: usize, kind: usize) -> String {
+    let value = ["[]", "{}", "[null]", "\"\""][kind];
+    format!("n=[{}]\nm={}\ne={}\n", vec![value; 25].join(","), "${n}".repeat(20), "${m}".repeat(count / 500))
+}
+
 /// Keys that are alike but for a few bytes behind the middle.
 fn alike(length: usize, i: usize) -> String {
     let half = "a".repeat((length / 2).max(2) - 1);
@@ -124,6 +130,19 @@ pub const ALL: &[Family] = &[
                 + &format!("s={}\ne=[{}]\n", "${e}".repeat(p[2]), vec!["[]"; p[1]].join(","))
                 + &needs(p[3], "[]")
         },
+    },
+    Family {
+        what: "pieces that name an object around an array of small values; hidden",
+        parameters: &[("pieces", 1, 1_850), ("elements", 500, 5_000), ("kind", 0, 3)],
+        text: |p| {
+            format!("q={}${{r}}\nq=${{q.z}}\nw={{a=${{e}}}}\nr={{z=1}}\n", "${w}".repeat(p[0]))
+                + &small_values(p[1], p[2])
+        },
+    },
+    Family {
+        what: "pieces that name an array around an array of small values, then ones that need others",
+        parameters: &[("pieces", 1, 1_850), ("elements", 500, 5_000), ("kind", 0, 3), ("needs", 0, 100)],
+        text: |p| question("${w}", p[0], p[3]) + "w=[${e}]\n" + &small_values(p[1], p[2]) + &needs(p[3], "[]"),
     },
     Family {
         what: "an object of pieces with members of one null",
