@@ -4,6 +4,10 @@ use borrow.Author.Needs.{needs}
 use Rattle.text_profiles.proofs.bare_length.Statement.{statement}
 use Rattle.text_profiles.proofs.bare_length.Tie as tie
 
+-- named, so that it is judged by itself where an operation before it is refused too
+returns : tie.Need-returns
+returns c = search bares
+
 pub bare-length-spec : {M : Type 1} → statement M
 bare-length-spec =
     tie.close
@@ -13,7 +17,7 @@ bare-length-spec =
     (λ c. search needs)
     (λ c κs. search needs)
     (λ c. search product-fits)
-    (λ c. search bares)
+    returns
     (λ c. search bares)
     (λ c. search bares)
     (λ c. search bares))
