@@ -12,7 +12,7 @@
  *                                trail, sizeof trail, table, sizeof table,
  *                                text, sizeof text);
  *     if (dz_number(done) != DZ_OK)
- *         stop(dz_words(dz_number(done)), dz_place(done));
+ *         stop(dz_words(dz_number(done)), dz_line(done), dz_column(done));
  *     struct dz_sheet sheet = dz_resolve_sheet(done, trail, table, text);
  *
  *     uint64_t answer = dz_check(document, document_len, NULL, 0,
@@ -20,7 +20,7 @@
  *                                sheet.table, sheet.table_length,
  *                                sheet.text, sheet.text_length);
  *     if (!dz_check_accepted(answer))
- *         stop(dz_words(dz_number(answer)), dz_place(answer));
+ *         stop(dz_words(dz_number(answer)), dz_line(answer), dz_column(answer));
  *
  * A sheet is three parts of bytes: a trail, which lists what each value with a
  * ${..} in it came to; a table, which holds the configuration as compact
@@ -30,7 +30,7 @@
  *
  *     uint64_t min = dz_find_length(&sheet, "plate.min");
  *     if (dz_number(min) != DZ_OK)
- *         stop(dz_words(dz_number(min)), 0);
+ *         stop(dz_words(dz_number(min)), 0, 0);
  *     show(dz_length_micrometres(min));
  *
  * The limits of a plate, of a file that names its profile, come both at once and
@@ -38,7 +38,7 @@
  *
  *     uint64_t limits = dz_sheet_profile(&sheet);
  *     if (dz_number(limits) != DZ_OK)
- *         stop(dz_words(dz_number(limits)), 0);
+ *         stop(dz_words(dz_number(limits)), 0, 0);
  *     measure(dz_profile_minimum(limits), dz_profile_maximum(limits));
  *
  * Any other value is a pointer to its record, of which the functions below give
@@ -140,6 +140,12 @@ DZ_INLINE const char *dz_version(void)
  * 0 is no refusal. Every refusal has one of these numbers and a place: the
  * offset of the first byte concerned, or 0 where no byte is. Each function says
  * which numbers it gives, with their places. Numbers not listed are reserved.
+ *
+ * A place in a document, which 2 to 12 of dz_resolve() and dz_check() have, comes
+ * with its line and its column too. Lines count newlines (0A), from 1; columns
+ * count characters since the last newline, from 1, each as one: a tab, a carriage
+ * return and a character of four bytes too. The end is the character behind the
+ * last. All other refusals have line 0 and column 0.
  */
 enum dz_number {
     DZ_OK = 0,
@@ -182,6 +188,24 @@ DZ_INLINE int dz_number(uint64_t answer)
 DZ_INLINE size_t dz_place(uint64_t answer)
 {
     return dz_number(answer) == DZ_OK ? 0 : DZ_CAST(size_t, answer >> 6 & 0xffff);
+}
+
+/* The number of the document in which a refusal's place is; it is 0: there is one document. */
+DZ_INLINE size_t dz_document(uint64_t answer)
+{
+    return dz_number(answer) == DZ_OK ? 0 : DZ_CAST(size_t, answer >> 22 & 0xf);
+}
+
+/* The line of a refusal's place; 0 if it has none in a document, and if the answer is no refusal. */
+DZ_INLINE size_t dz_line(uint64_t answer)
+{
+    return dz_number(answer) == DZ_OK ? 0 : DZ_CAST(size_t, answer >> 26 & 0xffff);
+}
+
+/* The column of a refusal's place; 0 if it has none in a document, and if the answer is no refusal. */
+DZ_INLINE size_t dz_column(uint64_t answer)
+{
+    return dz_number(answer) == DZ_OK ? 0 : DZ_CAST(size_t, answer >> 42 & 0xffff);
 }
 
 /* A refusal number in words, at most 24 characters: a line of a small display. */
@@ -408,13 +432,13 @@ DZ_INLINE const uint8_t *dz_value(const uint8_t *member)
  * Returns a count and the used lengths, or a refusal. Take it apart with the
  * functions below; its bits are
  *
- *     bits         done                     refused
- *     0 to 5       0                        number
- *     6 to 14      count                    place (6 to 21)
- *     15 to 30     length of the trail
- *     31 to 46     length of the table      0 (22 to 63; kept for a document's
- *     47 to 62     length of the text       number, line and column)
- *     63           0
+ *     bits         done                     bits         refused
+ *     0 to 5       0                        0 to 5       number
+ *     6 to 14      count                    6 to 21      place
+ *     15 to 30     length of the trail      22 to 25     document
+ *     31 to 46     length of the table      26 to 41     line
+ *     47 to 62     length of the text       42 to 57     column
+ *     63           0                        58 to 63     0
  *
  * The count is that of the values with ${..} which were begun, and equals the
  * entries of the trail. The used parts are the sheet: dz_check() accepts them for
@@ -468,7 +492,8 @@ DZ_INLINE const uint8_t *dz_value(const uint8_t *member)
  *                                   its buffer, or is over DZ_PART_MAX. Place 0.
  *
  * 2 is judged over the whole document; 3 to 8 and 11 from left to right while it
- * is read, and the first one met is given; 9 to 14 while it is worked out.
+ * is read, and the first one met is given; 9 to 14 while it is worked out. 2 to 12
+ * have a line and a column, 1, 13 and 14 have none.
  */
 uint64_t dz_resolve(const uint8_t *document, size_t document_len,
                     const uint8_t *environment, size_t environment_len,
@@ -514,10 +539,11 @@ DZ_INLINE size_t dz_resolve_text_length(uint64_t answer)
  * answer is yes, dz_resolve() with DZ_BUDGET_MAX and full-size buffers gives a
  * table that means the same. What dz_resolve() hands back is accepted.
  *
- * Returns 0 for yes, or a refusal: bits 0 to 5 number, 6 to 21 place, the rest 0.
+ * Returns 0 for yes, or a refusal, with the bits of dz_resolve()'s.
  *
  * Refusals: 1, also if a part of the sheet is over DZ_PART_MAX bytes, with place
- * 0; 2 to 8, and 11 of a value without ${..}, with places as in dz_resolve(); and
+ * 0; 2 to 8, and 11 of a value without ${..}, with places, lines and columns as in
+ * dz_resolve(); and
  *
  *     17 DZ_NOT_ACCEPTED            The sheet is not one of this document and
  *                                   environment, for whatever reason. Place 0.

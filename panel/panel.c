@@ -16,7 +16,6 @@
 
 /* One byte more than is allowed, so that the library can refuse what is longer. */
 static uint8_t document[DZ_DOCUMENT_MAX + 1], environment[65536], sheet_file[DZ_SHEET_FILE_MAX + 1];
-static size_t document_length;
 
 /* A file that cannot be read whole, or a display that cannot be written to, stops the panel. */
 static void give_up(const char *name, const char *what)
@@ -104,34 +103,20 @@ static size_t load_environment(const char *name)
     return put_entries(name, environment, length);
 }
 
-/* Shows a refusal, with line and column where the place is in the file. */
-static int stop(int number, size_t place, int in_document)
+/* Shows a refusal, with line and column where it has a place in the file. */
+static int stop(uint64_t answer)
 {
-    size_t line = 1, column = 1;
-    for (size_t i = 0; i < place && i < document_length; i++)
-        if (document[i] == '\n') {
-            line++;
-            column = 1;
-        } else
-            column += (document[i] & 0xc0) != 0x80;
-    printf("STOPPED %d %s\n", number, dz_words(number));
-    if (in_document)
-        printf("line %zu, column %zu\n", line, column);
+    printf("STOPPED %d %s\n", dz_number(answer), dz_words(dz_number(answer)));
+    if (dz_line(answer) != 0)
+        printf("line %zu, column %zu\n", dz_line(answer), dz_column(answer));
     return 1;
-}
-
-/* Numbers 2 to 8 and 11 have a place in the file. */
-static int stop_check(uint64_t answer)
-{
-    int number = dz_number(answer);
-    return stop(number, dz_place(answer), number != DZ_BAD_INPUT && number != DZ_NOT_ACCEPTED);
 }
 
 static int show(const struct dz_sheet *sheet, const char *path)
 {
     uint64_t length = dz_find_length(sheet, path);
     if (dz_number(length) != DZ_OK)
-        return stop(dz_number(length), 0, 0);
+        return stop(length);
     unsigned micrometres = (unsigned)dz_length_micrometres(length);
     printf("%s %u.%03u mm\n", path, micrometres / 1000, micrometres % 1000);
     return 0;
@@ -142,7 +127,7 @@ static int show_profile(const struct dz_sheet *sheet)
 {
     uint64_t limits = dz_sheet_profile(sheet);
     if (dz_number(limits) != DZ_OK)
-        return stop(dz_number(limits), 0, 0);
+        return stop(limits);
     unsigned minimum = (unsigned)dz_profile_minimum(limits), maximum = (unsigned)dz_profile_maximum(limits);
     printf("profile %d\n", dz_profile_edition(limits));
     printf("plate.min %u.%04u mm\nplate.max %u.%04u mm\n", minimum / 10000, minimum % 10000, maximum / 10000, maximum % 10000);
@@ -166,13 +151,13 @@ int main(int argc, char **argv)
     }
     if (dz_version_number() != DZINTRULO_VERSION_NUMBER)
         give_up("libdzintrulo", dz_version());
-    document_length = load(argv[1], document, sizeof document);
+    size_t document_length = load(argv[1], document, sizeof document);
     size_t environment_length = load_environment(argv[2]);
     if (!dz_sheet_open(sheet_file, load(argv[3], sheet_file, sizeof sheet_file), &sheet))
-        return finish(stop(DZ_NOT_ACCEPTED, 0, 0));
+        return finish(stop(DZ_NOT_ACCEPTED));
     uint64_t answer = dz_check(document, document_length, environment, environment_length, sheet.trail, sheet.trail_length,
                                sheet.table, sheet.table_length, sheet.text, sheet.text_length);
     if (!dz_check_accepted(answer))
-        return finish(stop_check(answer));
+        return finish(stop(answer));
     return finish(argc == 4 ? show_profile(&sheet) : show(&sheet, argv[4]));
 }

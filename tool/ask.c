@@ -67,6 +67,7 @@ struct job job_of(const struct job *job, const struct draft *draft)
     return changed;
 }
 
+#define NO_UTF8 "\xff" /* a byte of no character */
 #define ASKED_MOST 4000 /* questions for one call: seconds at worst, and then no more is said than is known */
 
 /* What the library says to the first bytes of the document with a text behind them. */
@@ -80,6 +81,25 @@ uint64_t ask_after(const struct job *job, size_t length, const char *behind)
     add_bytes_to(&draft, (struct span){job->document.span.bytes, length});
     add_text_to(&draft, behind);
     return resolve_bytes((struct span){draft.bytes, draft.length}, job, 0, &scratch);
+}
+
+/*
+ * Line and column of a place, by the library: it refuses a byte there that no UTF-8 has before anything else. A full document has no room
+ * for one at its end, which stands behind its last character.
+ */
+void ask_position(struct span source, size_t place, size_t *line, size_t *column)
+{
+    static struct draft draft;
+    size_t last = place < DZ_DOCUMENT_MAX ? place : DZ_DOCUMENT_MAX - 1;
+    while (last < place && last > 0 && (source.bytes[last] & 0xc0) == 0x80)
+        last--;
+    draft.length = 0;
+    add_bytes_to(&draft, (struct span){source.bytes, last});
+    add_text_to(&draft, NO_UTF8);
+    uint64_t answer = dz_check(draft.bytes, draft.length, NULL, 0, NULL, 0, NULL, 0, NULL, 0);
+    bool begins_line = last < place && source.bytes[last] == '\n';
+    *line = dz_line(answer) + begins_line;
+    *column = begins_line ? 1 : dz_column(answer) + (last < place);
 }
 
 bool is_refused(uint64_t answer, int number, size_t place)

@@ -47,14 +47,10 @@ static const char *paint(const char *code)
 
 struct spot spot_of(struct span source, size_t place)
 {
-    struct spot spot = {.line = 1, .column = 1, .start = 0};
-    for (size_t i = 0; i < place && i < source.length; i++)
-        if (source.bytes[i] == '\n') {
-            spot.line++;
-            spot.start = i + 1;
-        }
-    for (size_t i = spot.start; i < place && i < source.length; i++)
-        spot.column += (source.bytes[i] & 0xc0) != 0x80;
+    struct spot spot = {.start = place};
+    ask_position(source, place, &spot.line, &spot.column);
+    while (spot.start > 0 && source.bytes[spot.start - 1] != '\n')
+        spot.start--;
     const uint8_t *rest = source.bytes + spot.start;
     const uint8_t *newline = source.length > spot.start ? memchr(rest, '\n', source.length - spot.start) : NULL;
     spot.end = newline == NULL ? source.length : (size_t)(newline - source.bytes);

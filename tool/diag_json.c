@@ -49,15 +49,26 @@ static void put_file(const struct message *message)
         put_word("input", message->name);
 }
 
+/* A byte that is no character's counts as one. */
+static size_t characters_in(struct span bytes)
+{
+    size_t count = 0;
+    for (size_t at = 0; at < bytes.length; count++) {
+        size_t size = character_length(bytes.bytes + at, bytes.length - at);
+        at += size == 0 ? 1 : size;
+    }
+    return count;
+}
+
 /* From the place to behind the last character that is marked. */
 static void put_range(struct span source, size_t place, size_t width)
 {
-    size_t end = marked_end(source, place, width);
     struct spot first = spot_of(source, place);
+    size_t marked = characters_in((struct span){source.bytes + place, marked_end(source, place, width) - place});
     put_count("line", first.line);
     put_count("column", first.column);
     put_count("endLine", first.line);
-    put_count("endColumn", spot_of(source, end).column);
+    put_count("endColumn", first.column + marked);
     put_count("place", place);
 }
 

@@ -125,6 +125,7 @@ void add_bytes_to(struct draft *draft, struct span bytes);
 void add_text_to(struct draft *draft, const char *text);
 struct job job_of(const struct job *job, const struct draft *draft);
 uint64_t ask_after(const struct job *job, size_t length, const char *behind);
+void ask_position(struct span source, size_t place, size_t *line, size_t *column);
 bool is_refused(uint64_t answer, int number, size_t place);
 bool is_read(uint64_t answer);
 

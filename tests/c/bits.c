@@ -34,6 +34,9 @@ struct value {
     }
 TAKEN(dz_number)
 TAKEN(dz_place)
+TAKEN(dz_document)
+TAKEN(dz_line)
+TAKEN(dz_column)
 TAKEN(dz_resolve_count)
 TAKEN(dz_resolve_trail_length)
 TAKEN(dz_resolve_table_length)
@@ -60,11 +63,18 @@ static const struct value length[] = {{"micrometres", LENGTH_MICROMETRES, MICROM
 static const struct value profile[] = {{"edition", PROFILE_EDITION, EDITION_ROOM, take_dz_profile_edition},
                                        {"minimum", PROFILE_MINIMUM, MINIMUM_ROOM, take_dz_profile_minimum},
                                        {"maximum", PROFILE_MAXIMUM, MAXIMUM_ROOM, take_dz_profile_maximum}};
-static const struct value refused[] = {{"number", 1, NUMBER_ROOM, take_dz_number}, {"place", RESOLVE_PLACE, PLACE_ROOM, take_dz_place}};
+static const struct value refused[] = {{"number", 1, NUMBER_ROOM, take_dz_number},
+                                       {"place", RESOLVE_PLACE, PLACE_ROOM, take_dz_place},
+                                       {"document", RESOLVE_DOCUMENT, DOCUMENT_ROOM, take_dz_document},
+                                       {"line", RESOLVE_LINE, LINE_ROOM, take_dz_line},
+                                       {"column", RESOLVE_COLUMN, COLUMN_ROOM, take_dz_column}};
 static const struct value look_up_refused[] = {{"number of look-up", 1, NUMBER_ROOM, take_dz_look_up_number},
                                                {"place of look-up", LOOK_UP_PLACE, PLACE_ROOM, take_dz_look_up_place}};
 static const struct value check_refused[] = {{"number of check", 1, NUMBER_ROOM, take_dz_number},
-                                             {"place of check", CHECK_PLACE, PLACE_ROOM, take_dz_place}};
+                                             {"place of check", CHECK_PLACE, PLACE_ROOM, take_dz_place},
+                                             {"document of check", CHECK_DOCUMENT, DOCUMENT_ROOM, take_dz_document},
+                                             {"line of check", CHECK_LINE, LINE_ROOM, take_dz_line},
+                                             {"column of check", CHECK_COLUMN, COLUMN_ROOM, take_dz_column}};
 static const struct value length_refused[] = {{"number of length", 1, NUMBER_ROOM, take_dz_length_number}};
 static const struct value profile_refused[] = {{"number of profile", 1, NUMBER_ROOM, take_dz_profile_number}};
 
@@ -103,6 +113,7 @@ static void hold_others(void)
     hold(dz_profile_edition(refusal) == 0 && dz_profile_minimum(refusal) == 0 && dz_profile_maximum(refusal) == 0,
          "a refused profile has no limits");
     hold(dz_place(done) == 0 && dz_look_up_place(done) == 0 && dz_check_accepted(done), "what is done has no place");
+    hold(dz_document(done) == 0 && dz_line(done) == 0 && dz_column(done) == 0, "what is done has no line and no column");
 }
 
 /* Records: numbers of two bytes, the high one first; and how long each kind is (docs/FORMAT.md). */
@@ -119,16 +130,22 @@ static void hold_records(void)
     hold(dz_member_count(record) == 0x8123 && dz_entry_number(record) == 0x8123, "a count, and an entry's number");
 }
 
-/* The greatest place that the library gives: a document as long as one may be, which ends too early. */
-static void at_the_limit(void)
+/* The place of a document that ends too early is its end, with that line and column. */
+static void hold_end(uint64_t answer, size_t line, size_t column, const char *what)
+{
+    hold(dz_number(answer) == DZ_UNEXPECTED_END && dz_place(answer) == DZ_DOCUMENT_MAX && dz_document(answer) == 0, what);
+    hold(dz_line(answer) == line && dz_column(answer) == column, what);
+}
+
+/* The greatest place, column and line that the library gives: documents as long as one may be, of one line and of empty ones. */
+static void at_the_limit(uint8_t filling, size_t line, size_t column)
 {
     static uint8_t document[DZ_DOCUMENT_MAX], trail[1], table[3], text[1];
-    memset(document, ' ', sizeof document);
+    memset(document, filling, sizeof document);
     document[0] = '[';
-    uint64_t answer = dz_resolve(document, sizeof document, NULL, 0, 0, trail, sizeof trail, table, sizeof table, text, sizeof text);
-    hold(dz_number(answer) == DZ_UNEXPECTED_END && dz_place(answer) == DZ_DOCUMENT_MAX, "the place at a document's end");
-    answer = dz_check(document, sizeof document, NULL, 0, trail, 0, table, 0, text, 0);
-    hold(dz_number(answer) == DZ_UNEXPECTED_END && dz_place(answer) == DZ_DOCUMENT_MAX, "the same by check");
+    hold_end(dz_resolve(document, sizeof document, NULL, 0, 0, trail, sizeof trail, table, sizeof table, text, sizeof text), line, column,
+             "the place at a document's end");
+    hold_end(dz_check(document, sizeof document, NULL, 0, trail, 0, table, 0, text, 0), line, column, "the same by check");
 }
 
 int main(void)
@@ -144,7 +161,8 @@ int main(void)
     HOLD(profile_refused, true);
     hold_others();
     hold_records();
-    at_the_limit();
+    at_the_limit(' ', 1, DZ_DOCUMENT_MAX + 1);
+    at_the_limit('\n', DZ_DOCUMENT_MAX, 1);
     if (mismatches != 0)
         fprintf(stderr, "%d values are wrong\n", mismatches);
     return mismatches == 0 ? 0 : 1;

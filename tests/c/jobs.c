@@ -75,13 +75,19 @@ static void print_answer(const char *what, uint64_t answer)
         printf("count %zu, trail %zu, table %zu, text %zu\n", dz_resolve_count(answer), dz_resolve_trail_length(answer),
                dz_resolve_table_length(answer), dz_resolve_text_length(answer));
     else
-        printf("refused, number %d, place %zu\n", dz_number(answer), dz_place(answer));
+        printf("refused, number %d, place %zu, line %zu, column %zu\n", dz_number(answer), dz_place(answer), dz_line(answer),
+               dz_column(answer));
 }
 
 /* From the header's table of bits, and not by its functions: so they are tested too, and the unused bits. */
 static uint64_t packed(uint64_t count, uint64_t trail, uint64_t table, uint64_t text)
 {
     return count << 6 | trail << 15 | table << 31 | text << 47;
+}
+
+static uint64_t packed_refusal(int number, uint64_t place, uint64_t line, uint64_t column)
+{
+    return (uint64_t)number | place << 6 | line << 26 | column << 42;
 }
 
 static uint64_t check(const void *document, size_t document_len, const void *names, size_t names_len,
@@ -119,13 +125,20 @@ static void becomes(const char *document, const char *names, size_t names_len, u
 #define BECOMES(document, count, trail, table, text) \
     becomes(document, NULL, 0, count, trail, sizeof trail - 1, table, sizeof table - 1, text)
 
-static void refused(const char *document, uint64_t budget, int number, size_t place)
+static void refused_at(const char *what, const char *document, uint64_t budget, int number, size_t place, size_t line, size_t column)
 {
     struct resolved r = resolve(document, strlen(document), NULL, 0, budget, full);
-    print_answer(document, r.answer);
-    hold(r.answer == ((uint64_t)number | (uint64_t)place << 6), "the refusal");
+    print_answer(what, r.answer);
+    hold(r.answer == packed_refusal(number, place, line, column), "the refusal");
     hold(dz_number(r.answer) == number && dz_place(r.answer) == place, "its number and place");
+    hold(dz_document(r.answer) == 0 && dz_line(r.answer) == line && dz_column(r.answer) == column, "its line and column");
     release(r);
+}
+
+/* Of one line of ASCII. */
+static void refused(const char *document, uint64_t budget, int number, size_t place)
+{
+    refused_at(document, document, budget, number, place, 1, place + 1);
 }
 
 /* The ten cases of the rules. */
@@ -144,8 +157,18 @@ static void cases(void)
     refused("bar=${foo},foo=${bar}", DZ_BUDGET_MAX, DZ_CIRCULAR, 4);
     BECOMES("a=${x},a=1", 0, "", "\7\0\1\10\0\0\0\1\4\0\1\0\1", "a1");
     refused("a=[1] 5", DZ_BUDGET_MAX, DZ_MIXED_KINDS, 6);
-    refused("a=1", DZ_BUDGET_MAX + 1, DZ_BAD_INPUT, 0);
+    refused_at("a=1", "a=1", DZ_BUDGET_MAX + 1, DZ_BAD_INPUT, 0, 0, 0);
     becomes("a=${x}", "x=mm", 5, 1, "\11\0\0\5\0\0\0\2", 8, "\7\0\1\10\0\2\0\1\5\0\3\0\2", 13, "mmamm");
+}
+
+/* Lines by newlines, columns by characters; the end is the character behind the last. */
+static void lines(void)
+{
+    refused_at("a tab, and a line that ends with CR LF", "a=1\r\n\tb=]", DZ_BUDGET_MAX, DZ_BYTE_NOT_ALLOWED, 8, 2, 4);
+    refused_at("characters of 2, 3 and 4 bytes", "a=1\n\"\xc3\xa9\xe2\x82\xac\xf0\x9d\x84\x9e\"=]", DZ_BUDGET_MAX,
+               DZ_BYTE_NOT_ALLOWED, 16, 2, 7);
+    refused_at("the end, behind a newline", "a={\n", DZ_BUDGET_MAX, DZ_UNEXPECTED_END, 4, 2, 1);
+    refused_at("a name that nothing sets, in line 2", "a=1\nb=${x}", DZ_BUDGET_MAX, DZ_UNDEFINED, 6, 2, 3);
 }
 
 /* Buffers that are exactly full, one byte short, absent, and longer than a part may be. */
@@ -216,6 +239,7 @@ static void panel(void)
 int main(void)
 {
     cases();
+    lines();
     buffers();
     limits();
     panel();

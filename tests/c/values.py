@@ -20,6 +20,9 @@ FUNCTIONS = {
     "dz_version": (c_char_p, []),
     "dz_number": (c_int, [ANSWER]),
     "dz_place": (c_size_t, [ANSWER]),
+    "dz_document": (c_size_t, [ANSWER]),
+    "dz_line": (c_size_t, [ANSWER]),
+    "dz_column": (c_size_t, [ANSWER]),
     "dz_words": (c_char_p, [c_int]),
     "dz_kind": (c_int, [RECORD]),
     "dz_text_offset": (c_size_t, [RECORD]),
@@ -149,6 +152,10 @@ def main():
     hold(dz.dz_entry_number(dz.dz_next(sheet.trail)), 1, "an entry's number")
     sheet_parts = list(zip((sheet.trail, sheet.table, sheet.text), lengths))
     hold(dz.dz_check_accepted(dz.dz_check(*flat(lent), *flat(sheet_parts))), True, "check")
+
+    refused = dz.dz_check("a=1\né=}".encode(), 8, None, 0, *flat(sheet_parts))
+    where = dz.dz_number(refused), dz.dz_document(refused), dz.dz_place(refused), dz.dz_line(refused), dz.dz_column(refused)
+    hold(where, (3, 0, 7, 2, 3), "where a refusal is")
 
     at, root = byref(sheet), dz.dz_root(byref(sheet))
     hold(root, sheet.table, "the root")

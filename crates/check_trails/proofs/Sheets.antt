@@ -19,17 +19,17 @@ use Rattle.check_trails.specs.Contracts.{TrailAsked, TrailIs, SheetAsked
 -- ---- verdicts
 
 accepted-so : (x : Setting) (trail table text : List ℕ) → accepted x trail table text ≡ true
-    → verdictOf Verdict.Accepted ≡ verdict trail table text (valid x)
+    → (s : List ℕ) → verdictOf s Verdict.Accepted ≡ verdict s trail table text (valid x)
 unfolding verdict
-accepted-so x trail table text e = rw (verdict, e)
+accepted-so x trail table text e s = rw (verdict, e)
 
 abbrev pub notAccepted : Verdict
 notAccepted = Verdict.Refused 17 (record { 0 = 0 })
 
 wrong-so : (x : Setting) (trail table text : List ℕ) → accepted x trail table text ≡ false
-    → verdictOf notAccepted ≡ verdict trail table text (valid x)
+    → (s : List ℕ) → verdictOf s notAccepted ≡ verdict s trail table text (valid x)
 unfolding verdict
-wrong-so x trail table text e = rw (verdict, e)
+wrong-so x trail table text e s = rw (verdict, e)
 
 not-accepted-is : (number : ℕ) (place : DocAt) → notAccepted ≡ Verdict.Refused number place → 1 ≤ number
 not-accepted-is number place e = let n : 17 ≡ number = cc in omega arith

@@ -107,5 +107,5 @@ pub record SheetAsked (T B E w room : List ℕ) (count : ℕ) (trail text : List
 -- of a document that was read the answer is the rules'
 pub record SheetIs (E : List ℕ) (count : ℕ) (trail table text T B : List ℕ) (v : Verdict) : Type 0 where
   pub is : (x : Setting) (key : ℕ → Text) (items : ℕ) → Known x E → count ≡ countOf x → State x key items T B []
-      → verdictOf v ≡ verdict trail table text (valid x)
+      → (s : List ℕ) → verdictOf s v ≡ verdict s trail table text (valid x)
   pub refusal : (number : ℕ) (place : DocAt) → v ≡ Verdict.Refused number place → 1 ≤ number

@@ -5,15 +5,18 @@ use mathlib.Core.List.{List}
 use Rattle.rules.specs.Jobs.{checkJob}
 use Rattle.job_resolved.specs.Answers.{verdictOf, packedVerdict, PackableVerdict}
 use Rattle.job_resolved.specs.Unpacking.{packable-verdict}
-use Rattle.job_resolved.specs.Bits.{check-roomy}
+use Rattle.job_resolved.specs.Bits.{check-roomy, check-short}
 use Rattle.job_resolved.specs.Contracts.{CheckIs}
 use Rattle.job_resolved.specs.declared.Verdict.{Verdict}
 
 module _ {document environment trail table text : List ℕ} {v : Verdict} (C : CheckIs document environment trail table text v) where
-  pub verdict-packable : PackableVerdict v
-  verdict-packable = packable-verdict v (rw (C .is) (check-roomy document environment trail table text))
+  pub verdict-packable : PackableVerdict document v
+  verdict-packable =
+      packable-verdict document v (rw (C .is) (check-roomy document environment trail table text))
+      (rw (C .is) (check-short document environment trail table text))
 
-  pub verdict-packed : {r : ℕ} → r ≡ packedVerdict (verdictOf v) → r ≡ packedVerdict (checkJob document environment trail table text)
+  pub verdict-packed : {r : ℕ} → r ≡ packedVerdict (verdictOf document v)
+      → r ≡ packedVerdict (checkJob document environment trail table text)
   verdict-packed e = e ∙ ap packedVerdict (C .is)
 
 pub ruleset verdicts = (verdict-packable, verdict-packed)

@@ -23,7 +23,7 @@ pub extern "C" fn dz_resolve(
         (now (trail .entry)) (now (table .entry)) (now (text .entry)) (now (trail .exit)) (now (table .exit)) (now (text .exit)) r ⌝ }
 {
     let r = job_resolve::resolve(document, environment, budget, trail, table, text);
-    job_resolved::pack_resolution(r)
+    job_resolved::pack_resolution(document, r)
 }
 
 /// Check for C.
@@ -38,7 +38,8 @@ pub extern "C" fn dz_check(
     ensures { λ r. ⌜ r ≡ packedVerdict (checkJob (now (document .entry)) (now (environment .entry))
         (now (trail .entry)) (now (table .entry)) (now (text .entry))) ⌝ }
 {
-    job_resolved::pack_verdict(job_check::check(document, environment, trail, table, text))
+    let verdict = job_check::check(document, environment, trail, table, text);
+    job_resolved::pack_verdict(document, verdict)
 }
 
 /// Look-up for C.

@@ -4,8 +4,8 @@ use Prim.Native.Nat.{ℕ}
 use mathlib.Core.List.{List, _++_}
 use lib.ListN.{length, take}
 use lib.Seq.{take-at}
-use Rattle.rules.specs.Jobs.{Resolved, filled, buffersOf}
-use Rattle.job_resolved.specs.Answers.{Told, resolutionTold, resolvedTold}
+use Rattle.rules.specs.Jobs.{Result, filled, located, buffersOf}
+use Rattle.job_resolved.specs.Answers.{Told, resolutionTold, resultTold}
 use Rattle.job_resolved.specs.declared.Resolution.{Resolution}
 use Rattle.job_buffers.specs.Contracts.{ClearedIs, FinishedIs}
 
@@ -20,16 +20,17 @@ cleared-filled {used} {xs} {b} {a} h e c =
     c .is ∙ ap (filled (length b)) t
 
 -- the buffers begin with the parts of a sheet
-pub record Holding (r : Resolved) (trail table text : List ℕ) : Type 0 where
+pub record Holding (r : Result) (trail table text : List ℕ) : Type 0 where
   pub trail-begins : Begins (r .trail) trail
   pub table-begins : Begins (r .table) table
   pub text-begins : Begins (r .text) text
 
-pub finished-buffers : {q : Resolution} {r : Resolved} {b c d b′ c′ d′ : List ℕ} → Holding r b c d → resolutionTold q ≡ resolvedTold r
+pub finished-buffers : (s : List ℕ) {q : Resolution} {r : Result} {b c d b′ c′ d′ : List ℕ} → Holding r b c d
+    → resolutionTold q ≡ resultTold r
     → FinishedIs q b c d b′ c′ d′
-    → record { trail = b′; table = c′; text = d′ } ≡ buffersOf (length b) (length c) (length d) r
+    → record { trail = b′; table = c′; text = d′ } ≡ buffersOf (length b) (length c) (length d) (located s r)
 unfolding buffersOf
-finished-buffers {q} {r} {b} {c} {d} {b′} {c′} {d′} h e f =
+finished-buffers s {q} {r} {b} {c} {d} {b′} {c′} {d′} h e f =
     let s = cleared-filled (h .trail-begins) (ap (λ (t : Told). t .trail) e) (f .trail) in
     let t = cleared-filled (h .table-begins) (ap (λ (t : Told). t .table) e) (f .table) in
     let x = cleared-filled (h .text-begins) (ap (λ (t : Told). t .text) e) (f .text) in

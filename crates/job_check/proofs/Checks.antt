@@ -37,7 +37,7 @@ others-true others s e x h = go (bounds others s e)
 
 -- a refusal of the inputs is the job's
 refused-so : (s e trail table text : List ℕ) (number place : ℕ) (x : Refusal) → inputs (partsFit trail table text) s e ≡ refused x → number ≡ numberOf x
-    → place ≡ placeOf x → _≡_ {A = J.Verdict} (record { number = number; place = place }) (checkJob s e trail table text)
+    → place ≡ placeOf x → J.refusedAt s number place ≡ checkJob s e trail table text
 unfolding checkJob verdict
 refused-so s e trail table text number place x h n p = rw (checkJob, h, verdict, n, p)
 
@@ -95,6 +95,6 @@ module _ {s e trail table text T B T₁ B₁ : List ℕ} {fit : Bool} {r : Readi
     unfolding checkJob
     check-is {v} P =
         let h : inputs (partsFit trail table text) s e ≡ valid x = ap (λ (b : Bool). inputs b s e) (sym (F .is)) ∙ ready .read in
-        record { is = rw (checkJob, h) (P .is x _ items known (case-so z .2) (ready .state)); refusal = P .refusal }
+        record { is = rw (checkJob, h) (P .is x _ items known (case-so z .2) (ready .state) s); refusal = P .refusal }
 
 pub ruleset checks = (check-refused, sheet-asked, check-is)

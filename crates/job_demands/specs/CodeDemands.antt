@@ -16,7 +16,7 @@ use Rattle.answers.specs.Ask.{Trail}
 use Rattle.answers.specs.Resolve.{answer, resolve, Accepts}
 use Rattle.rules.specs.Sizes.{maxPathText, maxNesting}
 use Rattle.rules.specs.Bytes.{Text, At}
-use Rattle.rules.specs.Refusals.{resolveNumbers, checkNumbers, lookUpNumbers, lengthNumbers, ok}
+use Rattle.rules.specs.Refusals.{resolveNumbers, checkNumbers, lookUpNumbers, lengthNumbers, documentOf, offsetOf, ok}
 use Rattle.rules.specs.Utf8.{illFormed}
 use Rattle.rules.specs.Paths.{pathText}
 use Rattle.rules.specs.Values.{Value, Answer, withinSize, recordSize}
@@ -77,10 +77,11 @@ module _ {document environment : List ℕ} {budget : ℕ} {b c f b′ c′ f′ 
 
   -- a refusal has a number of the job's list, and a place in the document, or its length
   pub resolve-refusal : {number : ℕ} {place : DocAt} → r ≡ Resolution.Refused number place
-      → promises.OneOf resolveNumbers number × (place .0 ≤ length document)
+      → promises.OneOf resolveNumbers number × (documentOf (place .0) ≡ 0) × (offsetOf (place .0) ≤ length document)
   resolve-refusal h = (
     rw (runs.refused-number run h)
         (promises.resolve-numbers document environment budget (length b) (length c) (length f) (runs.refused-refuses run h)),
+    rw (runs.refused-document run h) (promises.resolve-document document environment budget (length b) (length c) (length f)),
     rw (runs.refused-place run h) (promises.resolve-place document environment budget (length b) (length c) (length f)),
   )
 
@@ -152,11 +153,14 @@ module _ {document environment : List ℕ} {b c f b′ c′ f′ : List ℕ} {r 
 module _ {document environment trail table text : List ℕ} {v : Verdict} (run : CheckIs document environment trail table text v) where
   -- a refusal's number and place
   pub check-refusal : {number : ℕ} {place : DocAt} → v ≡ Verdict.Refused number place
-      → promises.OneOf checkNumbers number × (place .0 ≤ length document)
+      → promises.OneOf checkNumbers number × (documentOf (place .0) ≡ 0) × (offsetOf (place .0) ≤ length document)
   check-refusal {number} {place} h =
       let n : number ≡ J.checkJob document environment trail table text .number = ap (λ q. q .number) (rw h at (run .is)) in
-      let p : place .0 ≡ J.checkJob document environment trail table text .place = ap (λ q. q .place) (rw h at (run .is)) in (
+      let d : documentOf (place .0) ≡ J.checkJob document environment trail table text .document
+      = ap (λ q. q .document) (rw h at (run .is)) in
+      let p : offsetOf (place .0) ≡ J.checkJob document environment trail table text .place = ap (λ q. q .place) (rw h at (run .is)) in (
         rw n (promises.check-numbers document environment trail table text (λ z. absurd (omega (arith, n, run .refusal number place h)))),
+        rw d (promises.check-document document environment trail table text),
         rw p (promises.check-place document environment trail table text),
       )
 

@@ -3,18 +3,19 @@
 --
 -- A run of dz_resolve is `PackedResolveIs document environment budget b c f b′ c′ f′ r`: the buffers for trail, table and text were b, c
 -- and f and are b′, c′ and f′, and r are the 64 bits. What the header's functions take out of them is `bits.numberIn r` (dz_number),
--- `bits.placeIn r` (dz_place), `bits.countIn r` (dz_resolve_count) and so on; the sheet handed back is as many bytes of each buffer as they
--- say.
+-- `bits.placeIn r` (dz_place), `bits.documentIn r` (dz_document), `bits.lineIn r` (dz_line), `bits.columnIn r` (dz_column),
+-- `bits.countIn r` (dz_resolve_count) and so on; the sheet handed back is as many bytes of each buffer as they say.
 use mathlib.Core.Path.{_≡_, refl, sym, ap, _∙_}
 use Prim.Native.Nat.{ℕ, _+_, _*_, _≤_}
 use mathlib.Core.List.{List}
-use mathlib.Core.Bool.{true}
+use mathlib.Core.Bool.{Bool, true, false, cond}
 use mathlib.Core.Option.{Option, none, some}
 use mathlib.Core.Logic.{_↔_}
 use native.Mathlib.Omega.{arith}
 use lib.ListN.{length, take, replicate}
 use lib.Seq.{slice, take-append-seam}
-use borrow.Author.Tests.{ne-eqb}
+use lib.Dec.{eqb}
+use borrow.Author.Tests.{eqb-true}
 use Rattle.answers.specs.Ask.{Trail}
 use Rattle.answers.specs.Resolve.{answer, resolve, Accepts}
 use Rattle.rules.specs.Sizes.{maxPathText}
@@ -36,7 +37,7 @@ use Rattle.rules.specs.Jobs as J
 use Rattle.theory.specs.Micrometres.{Exact}
 use Rattle.theory.specs.Demands as demands
 use Rattle.theory.specs.Promises as promises
-use Rattle.theory.specs.Promises.{OneOf, Refuses, FoundIn}
+use Rattle.theory.specs.Promises.{OneOf, Refuses, PositionFor, FoundIn}
 use Rattle.job_resolved.specs.Answers.{resolvedTold, packedVerdict}
 use Rattle.job_resolved.specs.Unpacking as bits
 use Rattle.job_resolved.specs.Bits.{resolve-unpacks, check-unpacks}
@@ -62,7 +63,7 @@ checked-yes : (document environment trail table text : List ℕ)
     ↔ demands.Yes (J.checkJob document environment trail table text)
 unfolding packedVerdict
 checked-yes d e trail table text = (
-  λ z. let n : J.checkJob d e trail table text .number + J.checkJob d e trail table text .place * 64 ≡ 0 = z in omega (arith, n),
+  λ z. sym (check-unpacks d e trail table text .number) ∙ ap bits.numberIn z,
   λ y. rw (demands.yes-is d e trail table text .0 y) refl,
 )
 
@@ -78,8 +79,17 @@ module _ {document environment : List ℕ} {budget : ℕ} {b c f b′ c′ f′ 
   pub number-is : bits.numberIn r ≡ job .number
   number-is = ap bits.numberIn (run .answer) ∙ out .number
 
+  pub document-is : bits.documentIn r ≡ job .document
+  document-is = ap bits.documentIn (run .answer) ∙ out .document
+
   pub place-is : bits.placeIn r ≡ job .place
   place-is = ap bits.placeIn (run .answer) ∙ out .place
+
+  pub line-is : bits.lineIn r ≡ job .line
+  line-is = ap bits.lineIn (run .answer) ∙ out .line
+
+  pub column-is : bits.columnIn r ≡ job .column
+  column-is = ap bits.columnIn (run .answer) ∙ out .column
 
   pub count-told : bits.countIn r ≡ job .count
   count-told = ap bits.countIn (run .answer) ∙ out .count
@@ -136,11 +146,19 @@ module _ {document environment : List ℕ} {budget : ℕ} {b c f b′ c′ f′ 
       )
 
   -- "A refusal is a number and a place from document 01's list"
-  pub resolve-refusal : Refuses (bits.numberIn r) → OneOf resolveNumbers (bits.numberIn r) × (bits.placeIn r ≤ length document)
+  pub resolve-refusal : Refuses (bits.numberIn r)
+      → OneOf resolveNumbers (bits.numberIn r) × (bits.documentIn r ≡ 0) × (bits.placeIn r ≤ length document)
   resolve-refusal h = (
     rw number-is (promises.resolve-numbers document environment budget (length b) (length c) (length f) (refuses h)),
+    rw document-is (promises.resolve-document document environment budget (length b) (length c) (length f)),
     rw place-is (promises.resolve-place document environment budget (length b) (length c) (length f)),
   )
+
+  -- "every refusal with a place in a document carries all three", and "All other places .. have line 0 and column 0"
+  pub resolve-position : PositionFor document (bits.numberIn r) (bits.placeIn r) (bits.lineIn r) (bits.columnIn r)
+  resolve-position =
+      rw (place-is, line-is, column-is, number-is)
+      (promises.resolve-position document environment budget (length b) (length c) (length f))
 
   module _ (z : bits.numberIn r ≡ 0) where
     -- ---- demand 2: "The table resolved from a document and environment is the one that document 01's reading and resolving rules give"
@@ -204,15 +222,50 @@ module _ {document environment : List ℕ} {b c f b′ c′ f′ : List ℕ} {r 
 -- ---- dz_check
 
 module _ {document environment trail table text : List ℕ} {v : ℕ} (run : Checked document environment trail table text v) where
-  pub check-refusal : Refuses (bits.numberIn v) → OneOf checkNumbers (bits.numberIn v) × (bits.placeIn v ≤ length document)
-  check-refusal h =
-      let out = check-unpacks document environment trail table text in
-      let n : bits.numberIn v ≡ J.checkJob document environment trail table text .number = ap bits.numberIn (run .is) ∙ out .number in
-      let p : bits.placeIn v ≡ J.checkJob document environment trail table text .place
-      = rw (ne-eqb (bits.numberIn v) 0 h) (ap bits.verdictPlaceIn (run .is) ∙ out .place) in (
-        rw n (promises.check-numbers document environment trail table text (λ z. h (n ∙ z))),
-        rw p (promises.check-place document environment trail table text),
-      )
+  abbrev judged : J.Verdict
+  judged = J.checkJob document environment trail table text
+
+  verdict-out : bits.UnpacksVerdict judged
+  verdict-out = check-unpacks document environment trail table text
+
+  pub check-number-is : bits.numberIn v ≡ judged .number
+  check-number-is = ap bits.numberIn (run .is) ∙ verdict-out .number
+
+  -- the header asks for the number first: a yes has no place
+  taken-out : (n : ℕ) (field : J.Verdict → ℕ) → field J.yes ≡ 0 → n ≡ field judged → cond (eqb (bits.numberIn v) 0) 0 n ≡ field judged
+  taken-out n field z e = go (eqb (bits.numberIn v) 0) refl
+    where
+      go : (t : Bool) → eqb (bits.numberIn v) 0 ≡ t → cond (eqb (bits.numberIn v) 0) 0 n ≡ field judged
+      go true h =
+          let y = sym check-number-is ∙ eqb-true (bits.numberIn v) 0 h in
+          rw h (sym (ap field (demands.yes-is document environment trail table text .0 y) ∙ z))
+      go false h = rw h e
+
+  pub check-document-is : bits.documentIn v ≡ judged .document
+  check-document-is =
+      taken-out (bits.verdictDocumentIn v) (λ q. q .document) refl (ap bits.verdictDocumentIn (run .is) ∙ verdict-out .document)
+
+  pub check-place-is : bits.placeIn v ≡ judged .place
+  check-place-is = taken-out (bits.verdictPlaceIn v) (λ q. q .place) refl (ap bits.verdictPlaceIn (run .is) ∙ verdict-out .place)
+
+  pub check-line-is : bits.lineIn v ≡ judged .line
+  check-line-is = taken-out (bits.verdictLineIn v) (λ q. q .line) refl (ap bits.verdictLineIn (run .is) ∙ verdict-out .line)
+
+  pub check-column-is : bits.columnIn v ≡ judged .column
+  check-column-is = taken-out (bits.verdictColumnIn v) (λ q. q .column) refl (ap bits.verdictColumnIn (run .is) ∙ verdict-out .column)
+
+  pub check-refusal : Refuses (bits.numberIn v)
+      → OneOf checkNumbers (bits.numberIn v) × (bits.documentIn v ≡ 0) × (bits.placeIn v ≤ length document)
+  check-refusal h = (
+    rw check-number-is (promises.check-numbers document environment trail table text (λ z. h (check-number-is ∙ z))),
+    rw check-document-is (promises.check-document document environment trail table text),
+    rw check-place-is (promises.check-place document environment trail table text),
+  )
+
+  pub check-position : PositionFor document (bits.numberIn v) (bits.placeIn v) (bits.lineIn v) (bits.columnIn v)
+  check-position =
+      rw (check-place-is, check-line-is, check-column-is, check-number-is)
+      (promises.check-position document environment trail table text)
 
   -- "a sheet is accepted exactly if .."
   pub accepted-exactly : (x : Setting) → inputs true document environment ≡ valid x

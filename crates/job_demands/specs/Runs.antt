@@ -9,16 +9,16 @@ use Rattle.text_chars.specs.declared.DocAt.{DocAt}
 use Rattle.text_chars.specs.declared.RecLen.{RecLen}
 use Rattle.text_chars.specs.declared.TextLen.{TextLen}
 use Rattle.answers.specs.Theory.Sound.{clash}
-use Rattle.rules.specs.Refusals.{nowhere}
+use Rattle.rules.specs.Refusals.{documentOf, offsetOf, nowhere}
 use Rattle.rules.specs.Jobs as J
-use Rattle.rules.specs.Jobs.{Resolved, Buffers, resolveJob, filled, buffersOf}
+use Rattle.rules.specs.Jobs.{Resolved, Buffers, resolveJob, filled, buffersOf, yes}
 use Rattle.theory.specs.Jobs.{Approval, approval-inv, approval-is}
 use Rattle.theory.specs.BothJobs.{resolved-approval}
 use Rattle.theory.specs.Promises.{Refuses, look-up-part}
 use Rattle.job_answers.specs.Answers.{jobOf}
 use Rattle.job_answers.specs.declared.Found.{Found}
-use Rattle.job_resolved.specs.Answers.{Told, resolutionTold, resolvedTold, Packable, verdictOf}
-use Rattle.job_resolved.specs.Unpacking.{packable}
+use Rattle.job_resolved.specs.Answers.{Located, resolutionTold, locatedTold, resolvedTold, verdictOf}
+use Rattle.job_resolved.specs.Unpacking.{Roomy, refusal-some}
 use Rattle.job_resolved.specs.Bits.{resolve-roomy}
 use Rattle.job_resolved.specs.Contracts.{ResolveIs, CheckIs}
 use Rattle.job_resolved.specs.declared.Resolution.{Resolution}
@@ -55,14 +55,15 @@ module _ {d e : List ℕ} {budget : ℕ} {b c f b′ c′ f′ : List ℕ} {r : 
 
   -- where the job of the rules succeeds, the run hands its sheet back
   pub run-hands : job .number ≡ 0 → Hands r b′ c′ f′ (job .trail) (job .table) (job .text)
-  run-hands z = go r (run .answer) (packable r (rw (← run .answer) at (resolve-roomy d e budget (length b) (length c) (length f))))
+  run-hands z = go r (run .answer) (rw (← run .answer) at (resolve-roomy d e budget (length b) (length c) (length f)))
     where
-      go : (q : Resolution) → resolutionTold q ≡ resolvedTold job → Packable q → Hands q b′ c′ f′ (job .trail) (job .table) (job .text)
-      go (Resolution.Refused number place) h k = absurd (omega (arith, k .room .0, ap (λ (t : Told). t .number) h))
+      go : (q : Resolution) → locatedTold d (resolutionTold q) ≡ resolvedTold job → Roomy (locatedTold d (resolutionTold q))
+          → Hands q b′ c′ f′ (job .trail) (job .table) (job .text)
+      go (Resolution.Refused number place) h k = absurd (omega (arith, refusal-some d number place k, ap (λ (t : Located). t .number) h))
       go (Resolution.Done count s t x) h k =
-          let p : s .0 ≡ length (job .trail) = ap (λ (t : Told). t .trail) h in
-          let q : t .0 ≡ length (job .table) = ap (λ (t : Told). t .table) h in
-          let v : x .0 ≡ length (job .text) = ap (λ (t : Told). t .text) h in
+          let p : s .0 ≡ length (job .trail) = ap (λ (t : Located). t .trail) h in
+          let q : t .0 ≡ length (job .table) = ap (λ (t : Located). t .table) h in
+          let v : x .0 ≡ length (job .text) = ap (λ (t : Located). t .text) h in
           record {
             count = count;
             answer = rw (← p, ← q, ← v) refl;
@@ -73,53 +74,55 @@ module _ {d e : List ℕ} {budget : ℕ} {b c f b′ c′ f′ : List ℕ} {r : 
 
   -- and what a run hands back is that sheet
   module _ {trail table text : List ℕ} (h : Hands r b′ c′ f′ trail table text) where
-    told : resolutionTold (Resolution.Done (h .count) (record { 0 = length trail }) (record { 0 = length table }) (record { 0 = length text }))
+    told : locatedTold d (resolutionTold
+        (Resolution.Done (h .count) (record { 0 = length trail }) (record { 0 = length table }) (record { 0 = length text })))
         ≡ resolvedTold job
     told = rw (h .answer) at (run .answer)
 
     pub hands-number : job .number ≡ 0
-    hands-number = sym (ap (λ (t : Told). t .number) told)
+    hands-number = sym (ap (λ (t : Located). t .number) told)
 
     pub hands-count : h .count ≡ job .count
-    hands-count = ap (λ (t : Told). t .count) told
+    hands-count = ap (λ (t : Located). t .count) told
 
     pub hands-trail : trail ≡ job .trail
     hands-trail =
-        let n : length trail ≡ length (job .trail) = ap (λ (t : Told). t .trail) told in
+        let n : length trail ≡ length (job .trail) = ap (λ (t : Located). t .trail) told in
         h .trail-is ∙ ap (λ (k : ℕ). take k b′) n ∙ ap (take (length (job .trail))) trail-filled ∙ used-part (length b) (job .trail)
 
     pub hands-table : table ≡ job .table
     hands-table =
-        let n : length table ≡ length (job .table) = ap (λ (t : Told). t .table) told in
+        let n : length table ≡ length (job .table) = ap (λ (t : Located). t .table) told in
         h .table-is ∙ ap (λ (k : ℕ). take k c′) n ∙ ap (take (length (job .table))) table-filled ∙ used-part (length c) (job .table)
 
     pub hands-text : text ≡ job .text
     hands-text =
-        let n : length text ≡ length (job .text) = ap (λ (t : Told). t .text) told in
+        let n : length text ≡ length (job .text) = ap (λ (t : Located). t .text) told in
         h .text-is ∙ ap (λ (k : ℕ). take k f′) n ∙ ap (take (length (job .text))) text-filled ∙ used-part (length f) (job .text)
 
     pub hands-approval : Approval d e trail table text
     hands-approval = rw (hands-trail, hands-table, hands-text) (resolved-approval d e budget (length b) (length c) (length f) hands-number)
 
   pub done-number : {count : ℕ} {s t : RecLen} {x : TextLen} → r ≡ Resolution.Done count s t x → job .number ≡ 0
-  done-number h = sym (ap (λ (t : Told). t .number) (rw h at (run .answer)))
+  done-number h = sym (ap (λ (t : Located). t .number) (rw h at (run .answer)))
 
   -- where it refuses, the run does, with its number and place, and leaves all bytes zero
   module _ {number : ℕ} {place : DocAt} (h : r ≡ Resolution.Refused number place) where
-    refused-told : resolutionTold (Resolution.Refused number place) ≡ resolvedTold job
+    refused-told : locatedTold d (resolutionTold (Resolution.Refused number place)) ≡ resolvedTold job
     refused-told = rw h at (run .answer)
 
     pub refused-number : number ≡ job .number
-    refused-number = ap (λ (t : Told). t .number) refused-told
+    refused-number = ap (λ (t : Located). t .number) refused-told
 
-    pub refused-place : place .0 ≡ job .place
-    refused-place = ap (λ (t : Told). t .place) refused-told
+    pub refused-document : documentOf (place .0) ≡ job .document
+    refused-document = ap (λ (t : Located). t .document) refused-told
+
+    pub refused-place : offsetOf (place .0) ≡ job .place
+    refused-place = ap (λ (t : Located). t .place) refused-told
 
     pub refused-some : 1 ≤ number
     refused-some =
-        let k : Packable (Resolution.Refused number place)
-        = rw h at (packable r (rw (← run .answer) at (resolve-roomy d e budget (length b) (length c) (length f)))) in
-        k .room .0
+        refusal-some d number place (rw h at (rw (← run .answer) at (resolve-roomy d e budget (length b) (length c) (length f))))
 
     pub refused-refuses : job .number ≡ 0 → ⊥
     refused-refuses z = absurd (omega (arith, refused-number, refused-some))
@@ -134,7 +137,7 @@ module _ {d e trail table text : List ℕ} {v : Verdict} (run : CheckIs d e trai
   pub approval-yes : Approval d e trail table text → v ≡ Verdict.Accepted
   approval-yes a = go v refl (run .is ∙ approval-is d e trail table text a)
     where
-      go : (u : Verdict) → v ≡ u → verdictOf u ≡ record { number = 0; place = 0 } → u ≡ Verdict.Accepted
+      go : (u : Verdict) → v ≡ u → verdictOf d u ≡ yes → u ≡ Verdict.Accepted
       go Verdict.Accepted h k = refl
       go (Verdict.Refused number place) h k = absurd (omega (arith, run .refusal number place h, ap (λ u. u .number) k))
 

@@ -28,7 +28,7 @@ use Rattle.eval_finished.specs.Contracts.{LayAsked, LaidIs}
 use Rattle.eval_entries.specs.Contracts.{TrailIs}
 use Rattle.eval_order.specs.Contracts.{sizes}
 use Rattle.eval_order.specs.declared.Progress.{Progress}
-use Rattle.job_resolved.specs.Answers.{Told, resolutionTold, resolvedTold}
+use Rattle.job_resolved.specs.Answers.{Told, resolutionTold, resultTold}
 use Rattle.job_resolved.specs.declared.Resolution.{Resolution}
 use Rattle.job_buffers.specs.Filled.{Begins, Holding}
 use Rattle.job_hand_back.specs.declared.Table.{Table}
@@ -166,7 +166,7 @@ module _ (p : Progress) (b x : List ℕ) (S : Trail Answer) (trail : List ℕ) {
                 ∙ ap (λ (z : List ℕ). z ++ texts v ++ behind) before;
           }
 
-      sheet-told : resolutionTold (outcome e p) ≡ resolvedTold (sheetFor v S (p .begun))
+      sheet-told : resolutionTold (outcome e p) ≡ resultTold (sheetFor v S (p .begun))
       sheet-told =
           told-same (u ∙ sym (length-trailRecords S)) (value-records h w ∙ sym (length-records (trailTextSize S) v))
           (omega (arith, t, value-texts h w, length-append (trailTexts S) (texts v), length-trailTexts S, length-texts v))

@@ -11,7 +11,7 @@ use Rattle.rules.specs.Bytes.{Text}
 use Rattle.rules.specs.Sizes.{maxRoom}
 use Rattle.rules.specs.Values.{Value, Answer}
 use Rattle.rules.specs.Sheet.{trailSize, trailTextSize}
-use Rattle.rules.specs.Jobs.{Resolved, handedBack}
+use Rattle.rules.specs.Jobs.{Result, handedBack}
 use Rattle.eval_writer.specs.Contracts.{Room}
 use Rattle.eval_extents.specs.declared.Extent.{Extent}
 use Rattle.eval_sizes.specs.Contracts.{withinC}
@@ -19,7 +19,7 @@ use Rattle.eval_sizes.specs.Answers.{ValueIn}
 use Rattle.eval_entries.specs.Contracts.{TrailIs}
 use Rattle.eval_order.specs.declared.Progress.{Progress}
 use Rattle.sheet_sizes.specs.declared.Sizes.{Sizes}
-use Rattle.job_resolved.specs.Answers.{resolutionTold, resolvedTold}
+use Rattle.job_resolved.specs.Answers.{resolutionTold, resultTold}
 use Rattle.job_resolved.specs.declared.Resolution.{Resolution}
 use Rattle.job_buffers.specs.Filled.{Holding}
 use Rattle.job_hand_back.specs.declared.Table.{Table}
@@ -45,8 +45,8 @@ pub record HandAsked (room : List ℕ) (p : Progress) : Type 0 where
   pub texts : p .text .0 ≤ maxRoom
 
 -- an answer, and buffers that begin with what it hands back
-pub record HandedBack (R : Resolved) (trail table text : List ℕ) (r : Resolution) : Type 0 where
-  pub told : resolutionTold r ≡ resolvedTold R
+pub record HandedBack (R : Result) (trail table text : List ℕ) (r : Resolution) : Type 0 where
+  pub told : resolutionTold r ≡ resultTold R
   pub holding : Holding R trail table text
 
 -- Of the root's value in its room, and of a trail that the buffers hold: table and text before (b, x) and after (a, y).

@@ -10,12 +10,12 @@ use lib.Seq.{length-take-le, length-front}
 use Rattle.rules.specs.Sizes.{maxRoom, maxBudget}
 use Rattle.rules.specs.Refusals.{Refusal, numberOf, placeOf}
 use Rattle.rules.specs.Documents.{Setting, Input, valid, refused, inputs}
-use Rattle.rules.specs.Jobs.{Resolved, refusedWith, roomOf, resolved, resolveJob, buffersOf}
+use Rattle.rules.specs.Jobs.{Result, Resolved, refusedWith, roomOf, resolved, located, resolveJob, buffersOf}
 use Rattle.text_chars.specs.declared.DocAt.{DocAt}
 use Rattle.read_documents.specs.Contracts.{InputRefuses}
 use Rattle.read_documents.specs.declared.Reading.{Reading}
 use Rattle.eval_state.specs.Memories.{jobBytes}
-use Rattle.job_resolved.specs.Answers.{resolutionTold}
+use Rattle.job_resolved.specs.Answers.{Told, resolutionTold, locatedTold}
 use Rattle.job_resolved.specs.Contracts.{ResolveIs}
 use Rattle.job_resolved.specs.declared.Resolution.{Resolution}
 use Rattle.job_buffers.specs.Contracts.{FinishedIs}
@@ -74,22 +74,30 @@ module _ (s e : List ℕ) (budget : ℕ) (b c x : List ℕ) where
   abbrev job : Resolved
   job = resolveJob s e budget (length b) (length c) (length x)
 
-  job-of : (fits : Bool) → fits ≡ leb budget maxBudget → (i : Input Setting) → inputs fits s e ≡ i
-      → job ≡ resolved budget (roomOf (length b)) (roomOf (length c)) (roomOf (length x)) i
-  unfolding resolveJob
-  job-of fits f i q =
+  -- what resolving comes to, before its place is told
+  unfoldable result : Result
+  result = resolved budget (roomOf (length b)) (roomOf (length c)) (roomOf (length x)) (inputs (leb budget maxBudget) s e)
+
+  job-located : job ≡ located s result
+  unfolding resolveJob result
+  job-located = refl
+
+  result-of : (fits : Bool) → fits ≡ leb budget maxBudget → (i : Input Setting) → inputs fits s e ≡ i
+      → result ≡ resolved budget (roomOf (length b)) (roomOf (length c)) (roomOf (length x)) i
+  unfolding result
+  result-of fits f i q =
       ap (resolved budget (roomOf (length b)) (roomOf (length c)) (roomOf (length x))) (ap (λ (t : Bool). inputs t s e) (sym f) ∙ q)
 
   -- buffers that begin with what the rules hand back, cleared behind it
-  ended : {b′ c′ x′ b″ c″ x″ : List ℕ} {r : Resolution} → HandedBack job b′ c′ x′ r
+  ended : {b′ c′ x′ b″ c″ x″ : List ℕ} {r : Resolution} → HandedBack result b′ c′ x′ r
       → length b′ ≡ length b → length c′ ≡ length c → length x′ ≡ length x → FinishedIs r b′ c′ x′ b″ c″ x″
       → ResolveIs s e budget b c x b″ c″ x″ r
   ended {b′} {c′} {x′} h i j k F = record {
-    answer = h .told;
-    buffers = finished-buffers (h .holding) (h .told) F
-        ∙ ap (λ (n : ℕ). buffersOf n (length c′) (length x′) job) i
-        ∙ ap (λ (n : ℕ). buffersOf (length b) n (length x′) job) j
-        ∙ ap (λ (n : ℕ). buffersOf (length b) (length c) n job) k;
+    answer = rw job-located (ap (λ (t : Told). locatedTold s t) (h .told));
+    buffers = rw job-located (finished-buffers s (h .holding) (h .told) F
+        ∙ ap (λ (n : ℕ). buffersOf n (length c′) (length x′) (located s result)) i
+        ∙ ap (λ (n : ℕ). buffersOf (length b) n (length x′) (located s result)) j
+        ∙ ap (λ (n : ℕ). buffersOf (length b) (length c) n (located s result)) k);
   }
 
   module _ {fits : Bool} (f : fits ≡ leb budget maxBudget) {T B T′ B′ : List ℕ} {q : Reading} (W : TaskIs fits s e T B T′ B′ q) where
@@ -99,7 +107,7 @@ module _ (s e : List ℕ) (budget : ℕ) (b c x : List ℕ) where
     resolve-refused {number} {place} z F =
         let h : InputRefuses (inputs fits s e) number place = rw z at (W .is) in
         let y : Refusal = h .0 in
-        ended (subst (λ (J : Resolved). HandedBack J b c x (Resolution.Refused number place)) (sym (job-of fits f (refused y) (h .1)))
+        ended (subst (λ (R : Result). HandedBack R b c x (Resolution.Refused number place)) (sym (result-of fits f (refused y) (h .1)))
         (record {
           told = told (numberOf y) (placeOf y) (h .2) (h .3);
           holding = record {
@@ -121,11 +129,11 @@ module _ (s e : List ℕ) (budget : ℕ) (b c x : List ℕ) where
 
       -- the task is that of the rooms
       done : {j : ℕ} → j ≡ roomOf (length c) → {b′ c′ x′ : List ℕ} {r : Resolution}
-          → ResolutionIs T′ B′ e budget (take i b) b′ (take j c) c′ (take k x) x′ r → HandedBack job b′ c′ x′ r
+          → ResolutionIs T′ B′ e budget (take i b) b′ (take j c) c′ (take k x) x′ r → HandedBack result b′ c′ x′ r
       unfolding resolution-asked resolved
       done {j} v {b′} {c′} {x′} {r} R =
           let x = part-length x k u in
-          subst (λ (J : Resolved). HandedBack J b′ c′ x′ r) (sym (job-of fits f (valid (asked .setting)) (asked .ready .read)))
+          subst (λ (R : Result). HandedBack R b′ c′ x′ r) (sym (result-of fits f (valid (asked .setting)) (asked .ready .read)))
           (rw (sym (part-length b i o), sym (part-length c j v), sym x) (R .is asked))
 
       pub resolve-done : {j : ℕ} {b′ c′ x′ b″ c″ x″ : List ℕ} {r : Resolution} → j ≡ roomOf (length c)

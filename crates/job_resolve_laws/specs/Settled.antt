@@ -6,7 +6,7 @@ use native.Mathlib.Omega.{arith}
 use lib.ListN.{length, replicate, length-replicate}
 use Rattle.rules.specs.Sizes.{maxRoom}
 use Rattle.rules.specs.Refusals.{numberOf, placeOf}
-use Rattle.rules.specs.Jobs.{Resolved, refusedWith}
+use Rattle.rules.specs.Jobs.{Result, refusedWith}
 use Rattle.theory_order.specs.Contracts.{settleRootC}
 use Rattle.theory_order.specs.Whole.{root-refused}
 use Rattle.text_chars.specs.declared.DocAt.{DocAt}
@@ -64,7 +64,7 @@ module _ {T B E w : List ℕ} {budget : ℕ} {trail text : List ℕ} where
         is = λ a.
             let h : RefusedAs (settleRootC (task a)) number (place .0) = settled a z in
             let y = h .refusal in
-            subst (λ (R : Resolved). HandedBack R trail′ table text′ (Resolution.Refused number place))
+            subst (λ (R : Result). HandedBack R trail′ table text′ (Resolution.Refused number place))
             (sym (root-refused (task a) (a .ready .state .document .read) (task-nested a) (length table) y (h .is)))
             (record {
               told = told (numberOf y) (placeOf y) (h .its-number) (h .its-place);

@@ -6,13 +6,14 @@ use mathlib.Core.List.{List}
 use lib.ListN.{length}
 use Rattle.text_chars.specs.declared.DocAt.{DocAt}
 use Rattle.rules.specs.Jobs.{resolveJob, Buffers, buffersOf, checkJob}
-use Rattle.job_resolved.specs.Answers.{resolutionTold, resolvedTold, packedResolution, verdictOf}
+use Rattle.job_resolved.specs.Answers.{resolutionTold, locatedTold, resolvedTold, packedResolution, verdictOf}
 use Rattle.job_resolved.specs.declared.Resolution.{Resolution}
 use Rattle.job_resolved.specs.declared.Verdict.{Verdict}
 
 -- a run of resolve: the three buffers before it (b, c, f) and after it
 pub record ResolveIs (document environment : List ℕ) (budget : ℕ) (b c f b′ c′ f′ : List ℕ) (r : Resolution) : Type 0 where
-  pub answer : resolutionTold r ≡ resolvedTold (resolveJob document environment budget (length b) (length c) (length f))
+  pub answer : locatedTold document (resolutionTold r)
+      ≡ resolvedTold (resolveJob document environment budget (length b) (length c) (length f))
   pub buffers : _≡_ {A = Buffers} (record { trail = b′; table = c′; text = f′ })
       (buffersOf (length b) (length c) (length f) (resolveJob document environment budget (length b) (length c) (length f)))
 
@@ -24,5 +25,5 @@ pub record PackedResolveIs (document environment : List ℕ) (budget : ℕ) (b c
 
 -- a run of check; no refusal passes for a yes
 pub record CheckIs (document environment trail table text : List ℕ) (v : Verdict) : Type 0 where
-  pub is : verdictOf v ≡ checkJob document environment trail table text
+  pub is : verdictOf document v ≡ checkJob document environment trail table text
   pub refusal : (number : ℕ) (place : DocAt) → v ≡ Verdict.Refused number place → 1 ≤ number

@@ -6,13 +6,13 @@ use Prim.Native.Nat.{ℕ, _≤_}
 use native.Mathlib.Omega.{arith}
 use lib.ListN.{length}
 use Rattle.theory.specs.Numbering.{prepared}
+use Rattle.theory.specs.JobRefusals.{valid-short}
 use Rattle.doc_items.specs.Room.{tableRoom, textRoom}
 use Rattle.text_chars.specs.declared.DocAt.{DocAt}
 use Rattle.read_documents.specs.Contracts.{InputsAs, InputsIs}
 use Rattle.read_documents.specs.declared.Reading.{Reading}
 use Rattle.eval_state.specs.Memories.{jobTable, jobBytes}
 use Rattle.eval_prepare.specs.Contracts.{PrepareAsked, PrepareIs}
-use Rattle.job_resolved.specs.Bits.{document-short}
 use Rattle.job_tasks.specs.Contracts.{TaskIs}
 
 pub table-room : {n : ℕ} → jobTable ≤ n → tableRoom ≤ n
@@ -48,7 +48,8 @@ module _ {others : Bool} {s e T B T₁ B₁ : List ℕ} {r : Reading} (i : Input
             x,
             record {
               read = read .1;
-              state = p .is x s B₁ unresolved (prepared others s e x (read .1)) (document-short others s e x (read .1)) (λ q h. refl) (read .2);
+              state = p .is x s B₁ unresolved (prepared others s e x (read .1))
+                  (valid-short others s e x (read .1)) (λ q h. refl) (read .2);
               unbegun = p .unbegun;
               variables = read .3;
             },

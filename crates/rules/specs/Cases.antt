@@ -1,7 +1,7 @@
 -- Worked cases, shown by computation. Documents and texts are written as they read, records in numbers, and values where the paper tells
 -- no bytes; the first cases' bytes fix the layout.
 use mathlib.Core.Path.{_≡_, refl}
-use Prim.Native.Nat.{ℕ}
+use Prim.Native.Nat.{ℕ, _+_}
 use Prim.Native.Char.{code}
 use Prim.Native.String.{String, [] as nil, _∷_ as cons}
 use mathlib.Core.List.{List, [], _∷_, _++_, map, reverse}
@@ -49,26 +49,29 @@ unfoldable pub obj : List (String × Value) → Value
 unfolding membersIn
 obj ms = objectOf (membersIn ms)
 
--- what is handed back: a refusal, a sheet in bytes, or the sheet of entries (the first one first) and a table
-unfoldable pub refusal : ℕ → ℕ → Resolved
-refusal n p = record { number = n; place = p; count = 0; trail = []; table = []; text = [] }
+-- what is handed back: a refusal at a place, by its line and column; one in a first line of ASCII
+unfoldable pub refusalAt : (number place line column : ℕ) → Resolved
+refusalAt n p line column =
+    record { number = n; document = 0; place = p; line = line; column = column; count = 0; trail = []; table = []; text = [] }
+
+unfoldable pub refusal : (number place : ℕ) → Resolved
+unfolding refusalAt
+refusal n p = refusalAt n p 1 (p + 1)
+
+-- a sheet in bytes, or the sheet of entries (the first one first) and a table
+unfoldable pub done : (count : ℕ) (trail table text : List ℕ) → Resolved
+done n trail table text =
+    record { number = 0; document = 0; place = 0; line = 0; column = 0; count = n; trail = trail; table = table; text = text }
 
 unfoldable pub sheet : ℕ → List ℕ → List ℕ → String → Resolved
-unfolding bytes
-sheet n trail table text = record { number = 0; place = 0; count = n; trail = trail; table = table; text = bytes text }
+unfolding bytes done
+sheet n trail table text = done n trail table (bytes text)
 
 unfoldable pub resolvesTo : Trail Answer → Value → Resolved
-unfolding records texts trailTextSize trailRecords trailTexts
+unfolding records texts trailTextSize trailRecords trailTexts done
 resolvesTo entries v =
     let S = reverse entries in
-    record {
-      number = 0;
-      place = 0;
-      count = length entries;
-      trail = trailRecords S;
-      table = records (trailTextSize S) v;
-      text = trailTexts S ++ texts v;
-    }
+    done (length entries) (trailRecords S) (records (trailTextSize S) v) (trailTexts S ++ texts v)
 
 pub record Case : Type 0 where
   pub document : String

@@ -8,12 +8,12 @@ use mathlib.Core.Option.{none, some}
 use Rattle.answers.specs.Ask.{Trail}
 use Rattle.rules.specs.Values.{Value, Answer}
 use Rattle.rules.specs.Jobs.{checkJob, Found, lookUpJob}
-use Rattle.rules.specs.Cases.{bytes, num, str, arr, obj, refusal, resolvesTo, Case, case, outcome}
+use Rattle.rules.specs.Cases.{bytes, num, str, arr, obj, refusalAt, refusal, resolvesTo, Case, case, outcome}
 
 -- ---- resolutions
 
 unfoldable pub references : List Case
-unfolding refusal resolvesTo num str arr obj
+unfolding refusalAt refusal resolvesTo num str arr obj
 references =
     -- an object may refer to paths within itself, and only the named field is worked out
     case "bar : { foo : 42, baz : ${bar.foo} }"
@@ -45,7 +45,7 @@ references =
     -- circles
     ∷ case "a : { b : ${a} }" (refusal 10 10)
     ∷ case "a : ${b}\nb : ${c}\nc : ${a}" (refusal 10 4)
-    ∷ case "a : 1\nb : 2\na : ${b}\nb : ${a}" (refusal 10 16)
+    ∷ case "a : 1\nb : 2\na : ${b}\nb : ${a}" (refusalAt 10 16 3 5)
     -- objects merge only where they are adjacent
     ∷ case "a : { y : 2 }, a : 42, a : { x : 1 }" (resolvesTo [] (obj (("a", obj (("x", num "1") ∷ [])) ∷ [])))
     ∷ case "a : 42, a : { y : 2 }, a : { x : 1 }" (resolvesTo [] (obj (("a", obj (("y", num "2") ∷ ("x", num "1") ∷ [])) ∷ [])))

@@ -10,8 +10,9 @@ use Rattle.answers.specs.Resolve.{Rules, Res, answer, refused, dry, resolve}
 use Rattle.rules.specs.Sizes.{maxBudget, maxPathText, maxNesting, maxRoom}
 use Rattle.rules.specs.Bytes.{Text, byteAt, within}
 use Rattle.rules.specs.Kinds as kinds
-use Rattle.rules.specs.Refusals.{Refusal, placed, nowhere, spent, numberOf, placeOf, Scan, ok, refused}
+use Rattle.rules.specs.Refusals.{Refusal, placed, nowhere, spent, numberOf, placeOf, documentOf, offsetOf, Scan, ok, refused}
 use Rattle.rules.specs.Utf8.{illFormed}
+use Rattle.rules.specs.Positions.{lineOf, columnOf}
 use Rattle.rules.specs.Paths.{pathText}
 use Rattle.rules.specs.Values.{Value, Answer, withinSize}
 use Rattle.rules.specs.Unresolved.{rootValue}
@@ -23,8 +24,8 @@ use Rattle.rules.specs.Micrometres.{Measured, noLength, lengthOf}
 
 -- ---- "Resolve: document, environment and budget in; trail, table, text and a count out."
 
--- the used parts; on a refusal they are empty
-pub record Resolved : Type 0 where
+-- What resolving comes to: a refusal's number and place, or 0, the count and the used parts. On a refusal they are empty.
+pub record Result : Type 0 where
   pub number : ℕ
   pub place : ℕ
   pub count : ℕ
@@ -33,7 +34,7 @@ pub record Resolved : Type 0 where
   pub text : List ℕ
 
 -- "A refusal's count is 0."
-unfoldable pub refusedWith : Refusal → Resolved
+unfoldable pub refusedWith : Refusal → Result
 refusedWith x = record { number = numberOf x; place = placeOf x; count = 0; trail = []; table = []; text = [] }
 
 -- "its first 32,768 bytes are its room"
@@ -53,7 +54,7 @@ orderOf x trailRoom textRoom = record {
 }
 
 -- what is handed back on success: the root's value, the trail and the count
-abbrev pub sheetFor : Value → Trail Answer → ℕ → Resolved
+abbrev pub sheetFor : Value → Trail Answer → ℕ → Result
 sheetFor v S n = record {
   number = 0;
   place = 0;
@@ -64,7 +65,7 @@ sheetFor v S n = record {
 }
 
 -- "After the trail, the table's size is tested (13), then it is written (14)."
-unfoldable pub handedBack : (tableRoom textRoom : ℕ) (m : Res Refusal Answer Value) → Resolved
+unfoldable pub handedBack : (tableRoom textRoom : ℕ) (m : Res Refusal Answer Value) → Result
 unfolding withinSize tableFits refusedWith records texts trailTextSize trailRecords trailTexts
 handedBack tableRoom textRoom (refused x) = refusedWith x
 handedBack tableRoom textRoom dry = refusedWith spent
@@ -74,18 +75,44 @@ handedBack tableRoom textRoom (answer v S n) =
       | true ↦ elim (tableFits tableRoom textRoom S v) [ false ↦ refusedWith (nowhere 14) | true ↦ sheetFor v S n ]
     ]
 
-unfoldable pub resolved : (budget trailRoom tableRoom textRoom : ℕ) (i : Input Setting) → Resolved
+unfoldable pub resolved : (budget trailRoom tableRoom textRoom : ℕ) (i : Input Setting) → Result
 unfolding refusedWith orderOf rootValue handedBack
 resolved budget trailRoom tableRoom textRoom (refused x) = refusedWith x
 resolved budget trailRoom tableRoom textRoom (valid x) =
     handedBack tableRoom textRoom
     (resolve (orderOf x trailRoom textRoom) budget (rootValue (x .document .root) (x .environment)) (countOf x))
 
+-- What resolve tells. Document 02, No. 4: a place is a document's number and an offset in it, with the line and the column.
+pub record Resolved : Type 0 where
+  pub number : ℕ
+  pub document : ℕ
+  pub place : ℕ
+  pub line : ℕ
+  pub column : ℕ
+  pub count : ℕ
+  pub trail : List ℕ
+  pub table : List ℕ
+  pub text : List ℕ
+
+abbrev pub located : (document : List ℕ) → Result → Resolved
+located document r = record {
+  number = r .number;
+  document = documentOf (r .place);
+  place = offsetOf (r .place);
+  line = lineOf document (r .number) (r .place);
+  column = columnOf document (r .number) (r .place);
+  count = r .count;
+  trail = r .trail;
+  table = r .table;
+  text = r .text;
+}
+
 unfoldable pub resolveJob : (document environment : List ℕ) (budget trailLength tableLength textLength : ℕ) → Resolved
-unfolding inputs resolved
+unfolding inputs resolved lineOf columnOf
 resolveJob document environment budget trailLength tableLength textLength =
-    resolved budget (roomOf trailLength) (roomOf tableLength) (roomOf textLength)
-    (inputs (leb budget maxBudget) document environment)
+    located document
+    (resolved budget (roomOf trailLength) (roomOf tableLength) (roomOf textLength)
+    (inputs (leb budget maxBudget) document environment))
 
 -- "Bytes not used are zero, after success too": what a lent output buffer of this size holds afterwards
 unfoldable pub filled : ℕ → List ℕ → List ℕ
@@ -108,21 +135,36 @@ buffersOf trailLength tableLength textLength r = record {
 -- ---- "Check: document, environment and a sheet (exactly those three parts, no spare tail) in; yes, or a refusal: 1 to 8 and a reading 11
 -- as in resolve, else 17."
 
+-- the place is told as in resolve
 pub record Verdict : Type 0 where
   pub number : ℕ
+  pub document : ℕ
   pub place : ℕ
+  pub line : ℕ
+  pub column : ℕ
 
-unfoldable pub verdict : (trail table text : List ℕ) (i : Input Setting) → Verdict
-unfolding accepted
-verdict trail table text (refused x) = record { number = numberOf x; place = placeOf x }
-verdict trail table text (valid x) =
-    elim (accepted x trail table text) [ true ↦ record { number = 0; place = 0 } | false ↦ record { number = 17; place = 0 } ]
+abbrev pub yes : Verdict
+yes = record { number = 0; document = 0; place = 0; line = 0; column = 0 }
+
+abbrev pub refusedAt : (document : List ℕ) (number place : ℕ) → Verdict
+refusedAt document number place = record {
+  number = number;
+  document = documentOf place;
+  place = offsetOf place;
+  line = lineOf document number place;
+  column = columnOf document number place;
+}
+
+unfoldable pub verdict : (document trail table text : List ℕ) (i : Input Setting) → Verdict
+unfolding accepted lineOf columnOf
+verdict document trail table text (refused x) = refusedAt document (numberOf x) (placeOf x)
+verdict document trail table text (valid x) = elim (accepted x trail table text) [ true ↦ yes | false ↦ refusedAt document 17 0 ]
 
 -- "a part of a sheet, lent to check or look-up, is over 32,768 bytes" is number 1
 unfoldable pub checkJob : (document environment trail table text : List ℕ) → Verdict
 unfolding inputs verdict
 checkJob document environment trail table text =
-    verdict trail table text
+    verdict document trail table text
     (inputs (leb (length trail) maxRoom && leb (length table) maxRoom && leb (length text) maxRoom) document environment)
 
 -- ---- "Look up: table, text and a path in; it hands back that part of the caller's own records which is the named value."

@@ -7,6 +7,7 @@ pub mod Refusals
 pub mod Utf8
 pub mod Environment
 pub mod Characters
+pub mod Positions
 pub mod Numbers
 pub mod Strings
 pub mod Tree
@@ -33,4 +34,5 @@ pub mod Examples
 pub mod EnvironmentExamples
 pub mod LengthExamples
 pub mod SpaceExamples
+pub mod PositionExamples
 pub mod OneByOne

@@ -9,6 +9,7 @@ use mathlib.Core.Option.{none, some}
 use Rattle.answers.specs.Ask.{Trail, mem}
 use Rattle.rules.specs.Refusals.{resolveNumbers, checkNumbers, lookUpNumbers, lengthNumbers, spentFuel}
 use Rattle.rules.specs.Values.{Value, Answer}
+use Rattle.rules.specs.Positions.{columnAt}
 use Rattle.rules.specs.Jobs.{Resolved, resolveJob, lengthJob}
 use Rattle.rules.specs.Cases.{bytes, num, obj}
 use Rattle.rules.specs.Examples.{sent, verdictOn, chain, ones, asked, looked}
@@ -99,6 +100,24 @@ second-is-undefined = refl
 second-is-wrong : verdict chain ((1, some (num "1")) ∷ (0, some (num "2")) ∷ []) ones ≡ 17
 unfolding verdict num ones
 second-is-wrong = refl
+
+-- ---- lines and columns
+
+wide-column : columnAt (bytes "é€x") 5 ≡ 3
+unfolding bytes columnAt
+wide-column = refl
+
+behind-a-newline : columnAt (bytes "a\nbc") 2 ≡ 1
+unfolding bytes columnAt
+behind-a-newline = refl
+
+end-column : columnAt (bytes "ab") 2 ≡ 3
+unfolding bytes columnAt
+end-column = refl
+
+no-line-of-1 : resolveJob (bytes "a=1") [] 257 32768 32768 32768 .line ≡ 0
+unfolding bytes resolveJob
+no-line-of-1 = refl
 
 -- ---- look-ups
 

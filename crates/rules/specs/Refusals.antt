@@ -1,5 +1,5 @@
 -- Document 01, "Numbers and places": refusals, and readings that may end in one.
-use Prim.Native.Nat.{ℕ}
+use Prim.Native.Nat.{ℕ, _/_, _%_}
 use mathlib.Core.List.{List, [], _∷_}
 use mathlib.Core.Bool.{true, false}
 use lib.Dec.{leb}
@@ -59,8 +59,19 @@ abbrev pub placeOf : Refusal → ℕ
 placeOf (placed number place) = place
 placeOf (nowhere number) = 0
 
--- What a definition gives where its fuel runs out: a number of no job's list, and not 0, which is success. No job gives this refusal
--- (modules ReadingEnds, Resolving and LookUps of `theory`).
+-- A place is one number: 65,536 times its document's, and the offset in that, which is at most 32,768. There is one document, number 0,
+-- so that readings, which give offsets, give places.
+abbrev pub perDocument : ℕ
+perDocument = 65536
+
+abbrev pub documentOf : (place : ℕ) → ℕ
+documentOf place = place / perDocument
+
+abbrev pub offsetOf : (place : ℕ) → ℕ
+offsetOf place = place % perDocument
+
+-- What a definition gives where its fuel runs out: a number of no job's list, and not 0, which is success. No job gives this refusal (modules
+-- ReadingEnds, Resolving and LookUps of `theory`).
 abbrev pub spentFuel : ℕ
 spentFuel = 63
 

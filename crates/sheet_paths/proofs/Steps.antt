@@ -7,6 +7,7 @@ use native.Mathlib.Omega.{arith}
 use lib.ListN.{length, getD, take, drop, length-drop, length-take}
 use lib.Seq.{slice}
 use Rattle.answers.specs.Theory.Sound.{clash}
+use Rattle.rules.specs.Refusals.{spentFuel}
 use Rattle.rules.specs.Bytes.{Text}
 use Rattle.rules.specs.Sizes.{maxNesting, maxRoom}
 use Rattle.rules.specs.Paths.{Element, textsOf}
@@ -182,7 +183,7 @@ module _ {table : List ℕ} {limit : ℕ} {at : RecAt} {r : End} (k : EndIs (aft
         rw (q, a, foundAt);
   }
 
-  pub part-none : r ≡ End.Nowhere → PartIs table limit (at .0) (Found.Part (rec 0) (recLen 0))
+  pub part-none : r ≡ End.Nowhere → PartIs table limit (at .0) (Found.Refused spentFuel (doc 0))
   unfolding foundAt notFound
   part-none z = record {
     is = λ text o l q.

@@ -16,6 +16,9 @@ ghost use Rattle.sheet_kinds.specs.Contracts.{nearRoom};
 ghost use Rattle.text_marks.specs.Marks.{marksRoom};
 ghost use Rattle.sheet_paths.specs.Contracts.{NextIs, ValueNamedIs, PartIs, PartNamedIs};
 
+// The rules' number where fuel runs out; no job gives it.
+const SPENT_FUEL: u8 = 63;
+
 // The value of the member whose key is a part of the path's text.
 fn next_value(table: &[u8], text: &[u8], names: &[u8], from: TextAt, end: TextAt, at: RecAt) -> End
     requires { ⌜ (length (now table) ≤ maxRoom) × (length (now text) ≤ maxRoom) × (at .0 ≤ nearRoom) ⌝ }
@@ -70,10 +73,10 @@ fn part_at(table: &[u8], limit: TextLen, at: RecAt) -> Found
                 size: RecLen(e - a),
             }
         }
-        // In a whole table each value has its end. Elsewhere the rules have number 0 and an empty part, and so has this.
-        End::Nowhere => Found::Part {
-            start: RecAt(0),
-            size: RecLen(0),
+        // In a whole table each value has its end. Elsewhere the rules have spent their fuel.
+        End::Nowhere => Found::Refused {
+            number: SPENT_FUEL,
+            place: DocAt(0),
         },
     }
 }

@@ -7,7 +7,8 @@ use lib.ListN.{length}
 use borrow.Author.Tests.{lt-ltb, le-ltb}
 use Rattle.rules.specs.Bytes.{byteAt}
 use Rattle.rules.specs.Characters.{widthOf, nextPlace, ofSeveral, characterAt}
-use Rattle.text_chars.specs.Cursor.{ByteIs, WidthIs, PastIs, cur, stepAt, StepIs}
+use Rattle.theory_text.specs.Positions.{Reached, reached-next, next-line, next-column}
+use Rattle.text_chars.specs.Cursor.{ByteIs, WidthIs, PastIs, cur, stepAt, Counts, StepIs}
 use Rattle.text_chars.specs.declared.DocAt.{DocAt}
 use Rattle.text_chars.specs.declared.Step.{Step}
 
@@ -90,17 +91,21 @@ module _ {s : List ℕ} {at lead w : ℕ} (b : ByteIs s at lead) (i : WidthIs le
   }
 
 -- a step
+counted : {s : List ℕ} {at ch p : ℕ} → at < length s → ch ≡ characterAt s at → p ≡ nextPlace s at → Reached s at → Counts s at ch p
+counted {s} {at} h i j r = rw (i, j) (record { line = next-line s at r h; column = next-column s at r h; reached = reached-next s at r })
+
 pub step-char : {s : List ℕ} {at ch : ℕ} {p : DocAt} → at < length s → ch ≡ characterAt s at → PastIs s at (p .0)
     → StepIs s at (Step.Char ch (record { at = p }))
 unfolding stepAt
 step-char {s} {at} {ch} {p} h i j = record {
   is = ap (λ (n : ℕ). Step.Char ch (cur n)) (j .is) ∙ rw (lt-ltb at (length s) h, i);
   moved = (h, j .forward, j .inside);
+  counts = counted h i (j .is);
 }
 
 pub step-end : {s : List ℕ} {at : ℕ} → length s ≤ at → StepIs s at Step.End
 unfolding stepAt
-step-end {s} {at} h = record { is = rw (le-ltb at (length s) h); moved = h }
+step-end {s} {at} h = record { is = rw (le-ltb at (length s) h); moved = h; counts = λ r. tt }
 
 pub ruleset widths = (width-1, width-2, width-3, width-4)
 

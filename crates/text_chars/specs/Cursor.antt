@@ -8,6 +8,8 @@ use lib.Dec.{ltb}
 use lib.ListN.{length}
 use Rattle.rules.specs.Bytes.{byteAt}
 use Rattle.rules.specs.Characters.{widthOf, characterAt, nextPlace}
+use Rattle.rules.specs.Positions.{lineAt, columnAt, lineBehind, columnBehind}
+use Rattle.theory_text.specs.Positions.{Reached}
 use Rattle.text_chars.specs.declared.DocAt.{DocAt}
 use Rattle.text_chars.specs.declared.Cursor.{Cursor}
 use Rattle.text_chars.specs.declared.Step.{Step}
@@ -16,7 +18,7 @@ use Rattle.text_chars.specs.declared.Ill.{Ill}
 abbrev pub doc : ℕ → DocAt
 doc at = record { 0 = at }
 
--- the cursor at a place; a line and a column would join it here
+-- the cursor at a place
 abbrev pub cur : ℕ → Cursor
 cur at = record { at = doc at }
 
@@ -50,9 +52,21 @@ abbrev pub StepMoved : ℕ → ℕ → Step → Type 0
 StepMoved len at (Step.Char ch c) = (at < len) × (at < c .at .0) × (c .at .0 ≤ len)
 StepMoved len at Step.End = len ≤ at
 
+-- line and column of the place past a character, by the character and those of its own place
+pub record Counts (s : List ℕ) (at ch next : ℕ) : Type 0 where
+  pub line : lineAt s next ≡ lineBehind ch (lineAt s at)
+  pub column : columnAt s next ≡ columnBehind ch (columnAt s at)
+  pub reached : Reached s next
+
+abbrev pub StepCounts : List ℕ → ℕ → Step → Type 0
+StepCounts s at (Step.Char ch c) = Counts s at ch (c .at .0)
+StepCounts s at Step.End = Unit {0}
+
+-- a step: the character with the place past it; and of a cursor that came from the start by steps, the line and the column there
 pub record StepIs (s : List ℕ) (at : ℕ) (r : Step) : Type 0 where
   pub is : r ≡ stepAt s at
   pub moved : StepMoved (length s) at r
+  pub counts : Reached s at → StepCounts s at r
 
 abbrev pub illAt : Option ℕ → Ill
 illAt none = Ill.Nowhere

@@ -1,4 +1,5 @@
 pub mod Cursor
+pub mod Positions
 pub mod Seen
 pub mod Parts
 pub mod Bounds

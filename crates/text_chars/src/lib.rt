@@ -1,6 +1,6 @@
 // The kinds of offset, which never stand in for each other; and the characters of a text: its bytes, whether they are well-formed
 // UTF-8, and a cursor that goes forward one character at a time.
-// Computes: Bytes, Utf8, Characters
+// Computes: Bytes, Utf8, Characters, Positions
 use codes::bytes;
 ghost use mathlib.Core.Path.{_≡_};
 ghost use Prim.Native.Nat.{_≤_, _<_};
@@ -9,6 +9,7 @@ ghost use Rattle.rules.specs.Sizes.{maxDocument};
 ghost use Rattle.rules.specs.Utf8.{continues, lowest, highest, promised, sequenceAt, illFormed};
 ghost use Rattle.rules.specs.Characters.{ofSeveral, characterAt};
 ghost use Rattle.text_chars.specs.Cursor.{ByteIs, WidthIs, PastIs, StepIs, illAt};
+ghost use Rattle.text_chars.specs.Positions.{EndIs, StartIs, PositionAsked, PositionStepIs, PositionIs};
 ghost use Rattle.text_chars.specs.WellFormed.{NotAsciiIs, BlockIs, WellFormedIs};
 
 /// A place in a document or a path text.
@@ -35,6 +36,14 @@ pub struct EnvLen(pub usize);
 /// A reading place. Cursors come from the start of a text and from steps.
 pub struct Cursor {
     pub at: DocAt,
+}
+
+/// A reading place with its line and its column. Reading goes by cursors, whose steps promise both and carry neither; the place of a
+/// refusal is walked to by positions.
+pub struct Position {
+    pub cursor: Cursor,
+    pub line: usize,
+    pub column: usize,
 }
 
 /// What stands at a cursor. A character is its code point.
@@ -349,6 +358,76 @@ impl Cursor {
             }
         } else {
             Step::End
+        }
+    }
+}
+
+// ---- lines and columns
+
+impl Position {
+    /// The start of a text.
+    pub fn start() -> Position
+        ensures { λ r. ⌜ StartIs r ⌝ }
+    {
+        Position {
+            cursor: Cursor { at: DocAt(0) },
+            line: 1,
+            column: 1,
+        }
+    }
+
+    /// The position past the character here; at the end it stays.
+    pub fn step(self, s: &[u8]) -> Position
+        requires { ⌜ PositionAsked (now s) self ⌝ }
+        ensures { λ r. ⌜ PositionStepIs (now (s .entry)) self r ⌝ }
+    {
+        let line = self.line;
+        let column = self.column;
+        match self.cursor.step(s) {
+            Step::Char { ch, next } => {
+                if ch == bytes::NEWLINE {
+                    return Position {
+                        cursor: next,
+                        line: line + 1,
+                        column: 1,
+                    };
+                }
+                Position {
+                    cursor: next,
+                    line,
+                    column: column + 1,
+                }
+            }
+            Step::End => self,
+        }
+    }
+}
+
+// A place, or the end where that comes before it.
+fn place_or_end(s: &[u8], place: DocAt) -> usize
+    ensures { λ r. ⌜ EndIs (now (s .entry)) (place .0) r ⌝ }
+{
+    let p = place.0;
+    if p < s.len() {
+        return p;
+    }
+    s.len()
+}
+
+/// The position of a place of a text: the one behind all characters that begin before it.
+pub fn position_of(s: &[u8], place: DocAt) -> Position
+    requires { ⌜ length (now s) ≤ maxDocument ⌝ }
+    ensures { λ r. ⌜ PositionIs (now (s .entry)) (place .0) r ⌝ }
+{
+    let end = place_or_end(s, place);
+    let mut here = Position::start();
+    loop {
+        let c = here.cursor;
+        let at = c.at;
+        if at.0 < end {
+            here = here.step(s);
+        } else {
+            return here;
         }
     }
 }

@@ -11,7 +11,7 @@ use Rattle.rules.specs.Refusals.{Refusal, nowhere, spent}
 use Rattle.rules.specs.Values.{Value, Answer, withinSize}
 use Rattle.rules.specs.Documents.{Setting, Input, valid, refused, inputs}
 use Rattle.rules.specs.Sheet.{trailTextSize, trailTexts, texts, tableFits}
-use Rattle.rules.specs.Jobs.{Resolved, refusedWith, roomOf, handedBack, resolved, resolveJob, filled, buffersOf}
+use Rattle.rules.specs.Jobs.{Result, refusedWith, roomOf, handedBack, resolved, resolveJob, filled, buffersOf}
 use Rattle.theory_text.specs.Choices.{by-test}
 use Rattle.theory.specs.Layout.{length-records, length-texts, length-trailRecords, length-trailTexts}
 use Rattle.theory.specs.Jobs.{resolutionOf}
@@ -24,7 +24,7 @@ filled-size size used h =
     omega (arith, length-append used (replicate rest 0), length-replicate {A = ℕ} rest 0)
 
 module _ (d e : List ℕ) (budget l m n : ℕ) where
-  abbrev Fitting : Resolved → Type 0
+  abbrev Fitting : Result → Type 0
   Fitting r = (length (r .trail) ≤ l) × (length (r .table) ≤ m) × (length (r .text) ≤ n)
 
   refused-fits : (x : Refusal) → Fitting (refusedWith x)
@@ -48,7 +48,7 @@ module _ (d e : List ℕ) (budget l m n : ℕ) where
       (λ full. refused-fits (nowhere 14)))
       (λ large. refused-fits (nowhere 13))
 
-  used-fits : Fitting (resolveJob d e budget l m n)
+  used-fits : let r = resolveJob d e budget l m n in (length (r .trail) ≤ l) × (length (r .table) ≤ m) × (length (r .text) ≤ n)
   unfolding resolveJob
   used-fits = go (inputs (leb budget maxBudget) d e)
     where

@@ -12,7 +12,7 @@ use Rattle.rules.specs.Values.{Value, Answer, withinSize}
 use Rattle.rules.specs.Unresolved.{rootValue}
 use Rattle.rules.specs.Documents.{Setting, valid, inputs}
 use Rattle.rules.specs.Meaning.{MeanTheSame}
-use Rattle.rules.specs.Jobs.{Resolved, resolveJob, buffersOf, Verdict, checkJob, orderOf}
+use Rattle.rules.specs.Jobs.{Resolved, resolveJob, buffersOf, Verdict, yes, checkJob, orderOf}
 use Rattle.rules.specs.Counting.{entriesIn}
 use Rattle.rules.specs.Reordering.{LaidOut, Reordering, InOrder}
 use Rattle.theory.specs.Jobs.{approval-inv, approval-is, approval-yes}
@@ -96,9 +96,9 @@ accepted-exactly d e trail table text x read h k m = (
 
 -- ---- that the words leave no choice
 
--- yes is number 0 and place 0
+-- yes is number 0, and all else 0
 pub yes-is : (document environment trail table text : List ℕ)
-    → Yes (checkJob document environment trail table text) ↔ (checkJob document environment trail table text ≡ record { number = 0; place = 0 })
+    → Yes (checkJob document environment trail table text) ↔ (checkJob document environment trail table text ≡ yes)
 yes-is d e trail table text = (λ y. approval-is d e trail table text (approval-inv d e trail table text y), λ h. ap (λ v. v .number) h)
 
 -- a sheet that check says yes to is that of some entries and a value

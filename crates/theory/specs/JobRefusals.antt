@@ -5,7 +5,7 @@ use Prim.Native.Nat.{ℕ, _-_, _≤_}
 use mathlib.Core.Bool.{Bool, true, false, _&&_}
 use mathlib.Core.List.{List, [], _∷_}
 use mathlib.Core.Option.{Option, none, some}
-use mathlib.Core.Logic.{inl, inr}
+use mathlib.Core.Logic.{_⊎_, inl, inr}
 use native.Mathlib.Omega.{arith}
 use lib.Dec.{leb}
 use lib.ListN.{length, replicate}
@@ -26,8 +26,9 @@ use Rattle.rules.specs.Sheet.{tableFits}
 use Rattle.rules.specs.Checking.{accepted}
 use Rattle.rules.specs.Paths.{pathText}
 use Rattle.rules.specs.LookUp.{isWhole, valueNamed}
-use Rattle.rules.specs.Jobs.{Resolved, refusedWith, roomOf, orderOf, handedBack, resolved, resolveJob, filled, buffersOf}
-use Rattle.rules.specs.Jobs.{Verdict, verdict, checkJob, Found, notFound, foundAt, lookedUp, lookUpJob}
+use Rattle.rules.specs.Positions.{lineOf, columnOf}
+use Rattle.rules.specs.Jobs.{Result, Resolved, refusedWith, roomOf, orderOf, handedBack, resolved, located, resolveJob, filled, buffersOf}
+use Rattle.rules.specs.Jobs.{Verdict, yes, refusedAt, verdict, checkJob, Found, notFound, foundAt, lookedUp, lookUpJob}
 use Rattle.theory_text.specs.Choices.{by-test, by-option}
 use Rattle.theory.specs.Layout.{both-true}
 use Rattle.theory.specs.Scanning.{Among, readingNumbers}
@@ -129,19 +130,45 @@ bounds true d e = go (leb (length d) maxDocument) refl (entriesOf e) refl
     go true l (some es) f =
         good refl (leb-true (length d) maxDocument l, es, f) (λ x h. with-refused d e es x (rw (inputs, l, f) at h))
 
+-- an input that is refused has place 0, or the document is not too long; then every place in it is one of document 0
+pub refused-short : (others : Bool) (d e : List ℕ) (x : Refusal) → inputs others d e ≡ refused x
+    → (x ≡ nowhere 1) ⊎ (length d ≤ maxDocument)
+refused-short others d e x h = go (bounds others d e)
+  where
+    go : Bounds others d e → (x ≡ nowhere 1) ⊎ (length d ≤ maxDocument)
+    go (bad z _) = inl (cc (h, z))
+    go (good _ g _) = inr (g .0)
+
+pub valid-short : (others : Bool) (d e : List ℕ) (x : Setting) → inputs others d e ≡ valid x → length d ≤ maxDocument
+valid-short others d e x h = go (bounds others d e)
+  where
+    go : Bounds others d e → length d ≤ maxDocument
+    go (bad z _) = clash (cc (h, z))
+    go (good _ g _) = g .0
+
 -- ---- resolve
+
+-- what has no place: its document and offset are 0, and its line and column
+pub record Nowhere (r : Resolved) : Type 0 where
+  pub document : r .document ≡ 0
+  pub place : r .place ≡ 0
+  pub line : r .line ≡ 0
+  pub column : r .column ≡ 0
 
 module _ (d e : List ℕ) (budget l m n : ℕ) where
   -- what resolve comes to: a refusal of the inputs, one of resolving, or a success
   pub data Outcome (r : Resolved) : Type 0 where
-    unread : (x : Refusal) → inputs (leb budget maxBudget) d e ≡ refused x → r ≡ refusedWith x → Outcome r
+    unread : (x : Refusal) → inputs (leb budget maxBudget) d e ≡ refused x → r ≡ located d (refusedWith x) → Outcome r
     stopped : (x : Setting) → inputs (leb budget maxBudget) d e ≡ valid x → (y : Refusal) → Among resolvingNumbers y → placeOf y ≤ length d
-        → r ≡ refusedWith y → Outcome r
-    succeeded : r .number ≡ 0 → r .place ≡ 0 → Outcome r
+        → r ≡ located d (refusedWith y) → Outcome r
+    succeeded : r .number ≡ 0 → Nowhere r → Outcome r
+
+  abbrev OutcomeOf : Result → Type 0
+  OutcomeOf r = Outcome (located d r)
 
   handed-outcome : (x : Setting) → inputs (leb budget maxBudget) d e ≡ valid x → (i : Res Refusal Answer Value)
-      → resolve (orderOf x (roomOf l) (roomOf n)) budget (rootOf x) (countOf x) ≡ i → Outcome (handedBack (roomOf m) (roomOf n) i)
-  unfolding handedBack
+      → resolve (orderOf x (roomOf l) (roomOf n)) budget (rootOf x) (countOf x) ≡ i → OutcomeOf (handedBack (roomOf m) (roomOf n) i)
+  unfolding handedBack lineOf columnOf
   handed-outcome x h (Res.refused y) k =
       let p = prepared (leb budget maxBudget) d e x h in
       stopped x h y (resolving-numbers x p (roomOf l) (roomOf n) budget y k)
@@ -151,22 +178,24 @@ module _ (d e : List ℕ) (budget l m n : ℕ) where
       go : Holds {R = Answer} {A = Value} (λ y. 1 ≤ numberOf y) ⊥ (λ v S n. Unit {0}) dry → ⊥
       go (dries z) = z
   handed-outcome x h (answer v S c) k =
-      by-test Outcome (withinSize v)
-      (λ small. by-test Outcome (tableFits (roomOf m) (roomOf n) S v)
-      (λ fits. succeeded refl refl) (λ full. stopped x h (nowhere 14) refl (omega arith) refl))
+      by-test OutcomeOf (withinSize v)
+      (λ small. by-test OutcomeOf (tableFits (roomOf m) (roomOf n) S v)
+      (λ fits. succeeded refl (record { document = refl; place = refl; line = refl; column = refl }))
+      (λ full. stopped x h (nowhere 14) refl (omega arith) refl))
       (λ large. stopped x h (nowhere 13) refl (omega arith) refl)
 
   pub outcome : Outcome (resolveJob d e budget l m n)
   unfolding resolveJob resolved
   outcome = go (inputs (leb budget maxBudget) d e) refl
     where
-      go : (i : Input Setting) → inputs (leb budget maxBudget) d e ≡ i → Outcome (resolved budget (roomOf l) (roomOf m) (roomOf n) i)
+      go : (i : Input Setting) → inputs (leb budget maxBudget) d e ≡ i → OutcomeOf (resolved budget (roomOf l) (roomOf m) (roomOf n) i)
       go (refused x) h = unread x h refl
       go (valid x) h = handed-outcome x h (resolve (orderOf x (roomOf l) (roomOf n)) budget (rootOf x) (countOf x)) refl
 
-  pub resolve-unread : (x : Refusal) → inputs (leb budget maxBudget) d e ≡ refused x → resolveJob d e budget l m n ≡ refusedWith x
+  pub resolve-unread : (x : Refusal) → inputs (leb budget maxBudget) d e ≡ refused x
+      → resolveJob d e budget l m n ≡ located d (refusedWith x)
   unfolding resolveJob resolved
-  resolve-unread x h = ap (resolved budget (roomOf l) (roomOf m) (roomOf n)) h
+  resolve-unread x h = ap (λ (i : Input Setting). located d (resolved budget (roomOf l) (roomOf m) (roomOf n) i)) h
 
 -- ---- buffers after a refusal
 
@@ -174,10 +203,10 @@ filled-zero : (size : ℕ) → filled size [] ≡ replicate size 0
 unfolding filled
 filled-zero size = let z : size - 0 ≡ size = omega arith in ap (λ k. replicate k 0) z
 
-pub zeroed : (l m n : ℕ) (x : Refusal)
-    → buffersOf l m n (refusedWith x) ≡ record { trail = replicate l 0; table = replicate m 0; text = replicate n 0 }
+pub zeroed : (d : List ℕ) (l m n : ℕ) (x : Refusal)
+    → buffersOf l m n (located d (refusedWith x)) ≡ record { trail = replicate l 0; table = replicate m 0; text = replicate n 0 }
 unfolding buffersOf refusedWith
-zeroed l m n x = rw (buffersOf, filled-zero l, filled-zero m, filled-zero n) refl
+zeroed d l m n x = rw (buffersOf, filled-zero l, filled-zero m, filled-zero n) refl
 
 -- ---- check
 
@@ -186,17 +215,17 @@ module _ (d e trail table text : List ℕ) where
   lentBounds = leb (length trail) maxRoom && leb (length table) maxRoom && leb (length text) maxRoom
 
   pub data Judgement (v : Verdict) : Type 0 where
-    unread : (x : Refusal) → inputs lentBounds d e ≡ refused x → v ≡ record { number = numberOf x; place = placeOf x } → Judgement v
+    unread : (x : Refusal) → inputs lentBounds d e ≡ refused x → v ≡ refusedAt d (numberOf x) (placeOf x) → Judgement v
     read : (x : Setting) → inputs lentBounds d e ≡ valid x → accepted x trail table text ≡ true
-        → v ≡ record { number = 0; place = 0 } → Judgement v
+        → v ≡ yes → Judgement v
     not-accepted : (x : Setting) → inputs lentBounds d e ≡ valid x → accepted x trail table text ≡ false
-        → v ≡ record { number = 17; place = 0 } → Judgement v
+        → v ≡ refusedAt d 17 0 → Judgement v
 
   pub judgement : Judgement (checkJob d e trail table text)
   unfolding checkJob verdict
   judgement = go (inputs lentBounds d e) refl
     where
-      go : (i : Input Setting) → inputs lentBounds d e ≡ i → Judgement (verdict trail table text i)
+      go : (i : Input Setting) → inputs lentBounds d e ≡ i → Judgement (verdict d trail table text i)
       go (refused x) h = unread x h refl
       go (valid x) h =
           by-test Judgement (accepted x trail table text) (λ t. read x h t refl) (λ f. not-accepted x h f refl)

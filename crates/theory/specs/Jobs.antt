@@ -17,7 +17,7 @@ use Rattle.rules.specs.Values.{Value, Answer, withinSize}
 use Rattle.rules.specs.Documents.{Setting, Input, valid, refused, inputs, countOf}
 use Rattle.rules.specs.Sheet.{tableFits}
 use Rattle.rules.specs.Checking.{accepted}
-use Rattle.rules.specs.Jobs.{roomOf, orderOf, sheetFor, handedBack, resolved, resolveJob, verdict, checkJob}
+use Rattle.rules.specs.Jobs.{Result, roomOf, orderOf, sheetFor, handedBack, resolved, located, resolveJob, yes, verdict, checkJob}
 use Rattle.theory.specs.Layout.{both-true}
 use Rattle.theory.specs.Numbering.{prepared}
 use Rattle.theory.specs.Entries.{rootOf}
@@ -101,11 +101,11 @@ module _ (d e : List ℕ) where
             }
 
     pub success-is : (x : Setting) → inputs true d e ≡ valid x → budget ≤ 256 → (h : Handed (roomOf m) (roomOf n) (resolutionOf x))
-        → resolveJob d e budget l m n ≡ sheetFor (h .root) (h .entries) (h .begun)
+        → resolveJob d e budget l m n ≡ located d (sheetFor (h .root) (h .entries) (h .begun))
     unfolding resolveJob
     success-is x read modest h =
         rw (resolveJob, le-leb budget maxBudget modest, read, resolved, h .answered)
-        (handed-sheet (roomOf m) (roomOf n) (h .root) (h .entries) (h .begun) (h .small) (h .fits))
+        (ap (λ (r : Result). located d r) (handed-sheet (roomOf m) (roomOf n) (h .root) (h .entries) (h .begun) (h .small) (h .fits)))
 
   -- ---- check
 
@@ -127,7 +127,7 @@ module _ (d e : List ℕ) where
     approval-inv = go (inputs lentBounds d e) refl
       where
         yes-inv : (x : Setting) → inputs lentBounds d e ≡ valid x → (t : Bool) → accepted x trail table text ≡ t
-            → verdict trail table text (valid x) .number ≡ 0 → Approval
+            → verdict d trail table text (valid x) .number ≡ 0 → Approval
         yes-inv x h true t k =
             let (all, read) = inputs-given lentBounds x h in
             let (two, third) = both-true _ _ all in
@@ -142,11 +142,11 @@ module _ (d e : List ℕ) where
             }
         yes-inv x h false t k = absurd (omega (arith, rw (t, verdict) at k))
 
-        go : (i : Input Setting) → inputs lentBounds d e ≡ i → verdict trail table text i .number ≡ 0 → Approval
+        go : (i : Input Setting) → inputs lentBounds d e ≡ i → verdict d trail table text i .number ≡ 0 → Approval
         go (refused y) h k = absurd (omega (arith, inputs-end lentBounds d e y h))
         go (valid x) h k = yes-inv x h (accepted x trail table text) refl k
 
-    pub approval-is : Approval → checkJob d e trail table text ≡ record { number = 0; place = 0 }
+    pub approval-is : Approval → checkJob d e trail table text ≡ yes
     unfolding checkJob
     approval-is y =
         rw (

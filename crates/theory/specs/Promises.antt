@@ -5,7 +5,7 @@ use Prim.Native.Nat.{ℕ, zero, suc, _+_, _-_, _≤_}
 use mathlib.Core.List.{List, _∷_}
 use mathlib.Core.Bool.{Bool, true, false}
 use mathlib.Core.Option.{Option, none, some}
-use mathlib.Core.Logic.{_↔_}
+use mathlib.Core.Logic.{_↔_, _⊎_, inl, inr}
 use native.Mathlib.Omega.{arith}
 use lib.Dec.{leb}
 use lib.ListN.{length, replicate}
@@ -14,9 +14,10 @@ use borrow.Author.Tests.{le-leb, leb-true}
 use Rattle.answers.specs.Ask.{Trail, mem}
 use Rattle.answers.specs.Resolve.{answer, resolve}
 use Rattle.answers.specs.Theory.Sound.{clash}
-use Rattle.rules.specs.Sizes.{maxBudget, maxPathText, maxNesting, maxRoom}
+use Rattle.rules.specs.Sizes.{maxDocument, maxBudget, maxPathText, maxNesting, maxRoom}
 use Rattle.rules.specs.Bytes.{Text, At}
-use Rattle.rules.specs.Refusals.{resolveNumbers, checkNumbers, lookUpNumbers, lengthNumbers, Refusal, placed, nowhere, numberOf, placeOf, ok, refused}
+use Rattle.rules.specs.Refusals.{resolveNumbers, checkNumbers, lookUpNumbers, lengthNumbers, Refusal, placed, nowhere}
+use Rattle.rules.specs.Refusals.{numberOf, placeOf, documentOf, offsetOf, ok, refused}
 use Rattle.rules.specs.Utf8.{illFormed}
 use Rattle.rules.specs.Paths.{pathText}
 use Rattle.rules.specs.Values.{Value, Answer, recordSize}
@@ -26,21 +27,26 @@ use Rattle.rules.specs.Sheet.{records, texts}
 use Rattle.rules.specs.LookUp.{isWhole, afterValue, textAt, valueNamed}
 use Rattle.rules.specs.Micrometres.{Measured, noLength}
 use Rattle.rules.specs.NamedValues.{valueAt}
-use Rattle.rules.specs.Jobs.{refusedWith, roomOf, orderOf, resolveJob, buffersOf, checkJob, Found, notFound, foundAt, lookUpJob, partAt, recordLength, lengthJob}
+use Rattle.rules.specs.Positions.{lineAt, columnAt, hasPlace, lineOf, columnOf}
+use Rattle.rules.specs.Jobs.{refusedWith, roomOf, orderOf, resolved, located, resolveJob, buffersOf, Verdict, refusedAt}
+use Rattle.rules.specs.Jobs.{checkJob, Found, notFound, foundAt, lookUpJob, partAt, recordLength, lengthJob}
 use Rattle.rules.specs.Reordering.{LaidOut}
 use Rattle.theory.specs.Scanning.{Among, among-all, readingNumbers}
 use Rattle.theory.specs.ReadingEnds.{inputs-numbers}
 use Rattle.theory.specs.DocumentPlaces.{inputs-places}
 use Rattle.theory.specs.PathNumbers.{pathNumbers}
-use Rattle.theory.specs.LookUpSteps.{found-none, found-part, look-up-long, look-up-not-whole, look-up-ill-formed, look-up-bad-path, look-up-path}
+use Rattle.theory.specs.LookUpSteps.{found-none, found-part, look-up-long, look-up-not-whole}
+use Rattle.theory.specs.LookUpSteps.{look-up-ill-formed, look-up-bad-path, look-up-path}
 use Rattle.theory.specs.LookUps as looks
 use Rattle.theory.specs.SheetLookUps as sheets
-use Rattle.theory.specs.Micrometres.{Exact, formNumbers, Answered, exactly, refusal, record-answered, length-answered, length-long, length-not-whole, length-whole}
+use Rattle.theory.specs.Micrometres.{Exact, formNumbers, Answered, exactly, refusal}
+use Rattle.theory.specs.Micrometres.{record-answered, length-answered, length-long, length-not-whole, length-whole}
 use Rattle.theory.specs.Jobs.{success-inv, success-is, Approval, approval-inv}
 use Rattle.theory.specs.Counts.{success-laid-out}
 use Rattle.theory.specs.BothJobs.{approval-sheet}
 use Rattle.theory.specs.Reordered.{one-sheet, approval-laid-out}
-use Rattle.theory.specs.JobRefusals.{GoodInputs, resolvingNumbers, Bounds, bad, good, bounds, Outcome, unread, stopped, succeeded, outcome, resolve-unread, zeroed}
+use Rattle.theory.specs.JobRefusals.{GoodInputs, resolvingNumbers, Bounds, bad, good, bounds, Outcome, unread}
+use Rattle.theory.specs.JobRefusals.{stopped, succeeded, outcome, resolve-unread, zeroed, refused-short, valid-short}
 use Rattle.theory.specs.JobRefusals.{lentBounds, Judgement, read, not-accepted, judgement, lent-true, lent-short}
 use Rattle.theory.specs.JobRefusals.{Step, long, broken, bad-path, nothing, something, step}
 use Rattle.theory.specs.Demands.{Succeeds, Yes, resolved-accepted}
@@ -92,23 +98,84 @@ look-up-numbers table text path h = looks.look-up-refused table text path (posit
 
 -- ---- places: "first byte concerned", or the length where the end is; so never past the document, or past the path text
 
+offset-low : {p n : ℕ} → p ≤ n → offsetOf p ≤ n
+offset-low h = omega arith
+
 pub resolve-place : (document environment : List ℕ) (budget trailLength tableLength textLength : ℕ)
     → resolveJob document environment budget trailLength tableLength textLength .place ≤ length document
 unfolding refusedWith
 resolve-place d e budget l m n = go (outcome d e budget l m n)
   where
     go : Outcome d e budget l m n (resolveJob d e budget l m n) → resolveJob d e budget l m n .place ≤ length d
-    go (unread x k q) = rw q (inputs-places d (leb budget maxBudget) e x k)
-    go (stopped x k y w p q) = rw q p
-    go (succeeded z p) = rw p (omega arith)
+    go (unread x k q) = rw q (offset-low (inputs-places d (leb budget maxBudget) e x k))
+    go (stopped x k y w p q) = rw q (offset-low p)
+    go (succeeded z p) = rw (p .place) (omega arith)
 
 pub check-place : (document environment trail table text : List ℕ) → checkJob document environment trail table text .place ≤ length document
 check-place d e trail table text = go (judgement d e trail table text)
   where
     go : Judgement d e trail table text (checkJob d e trail table text) → checkJob d e trail table text .place ≤ length d
-    go (unread x k q) = rw q (inputs-places d (lentBounds d e trail table text) e x k)
+    go (unread x k q) = rw q (offset-low (inputs-places d (lentBounds d e trail table text) e x k))
     go (read x k t q) = rw q (omega arith)
     go (not-accepted x k t q) = rw q (omega arith)
+
+-- "a place is a document's number and an offset": there is one document
+below : {p : ℕ} → p ≤ maxDocument → documentOf p ≡ 0
+below h = omega arith
+
+unread-document : (others : Bool) (d e : List ℕ) (x : Refusal) → inputs others d e ≡ refused x → documentOf (placeOf x) ≡ 0
+unread-document others d e x h = go (refused-short others d e x h)
+  where
+    go : (x ≡ nowhere 1) ⊎ (length d ≤ maxDocument) → documentOf (placeOf x) ≡ 0
+    go (inl z) = rw z (omega arith)
+    go (inr k) = below (omega (arith, k, inputs-places d others e x h))
+
+pub resolve-document : (document environment : List ℕ) (budget trailLength tableLength textLength : ℕ)
+    → resolveJob document environment budget trailLength tableLength textLength .document ≡ 0
+unfolding refusedWith
+resolve-document d e budget l m n = go (outcome d e budget l m n)
+  where
+    go : Outcome d e budget l m n (resolveJob d e budget l m n) → resolveJob d e budget l m n .document ≡ 0
+    go (unread x k q) = rw q (unread-document (leb budget maxBudget) d e x k)
+    go (stopped x k y w p q) = rw q (below (omega (arith, p, valid-short (leb budget maxBudget) d e x k)))
+    go (succeeded z p) = p .document
+
+pub check-document : (document environment trail table text : List ℕ) → checkJob document environment trail table text .document ≡ 0
+check-document d e trail table text = go (judgement d e trail table text)
+  where
+    go : Judgement d e trail table text (checkJob d e trail table text) → checkJob d e trail table text .document ≡ 0
+    go (unread x k q) = rw q (unread-document (lentBounds d e trail table text) d e x k)
+    go (read x k t q) = rw q refl
+    go (not-accepted x k t q) = rw q (omega arith)
+
+-- ---- lines and columns: "every refusal with a place in a document carries all three", and "All other places have line 0 and column 0"
+
+-- of a place in a document its own; else, and on success, 0
+abbrev pub PositionFor : (document : List ℕ) (number place line column : ℕ) → Type 0
+PositionFor d number place line column =
+    (hasPlace number ≡ true → (line ≡ lineAt d place) × (column ≡ columnAt d place)) × (hasPlace number ≡ false → (line ≡ 0) × (column ≡ 0))
+
+position-for : (d : List ℕ) (number place : ℕ) → PositionFor d number (offsetOf place) (lineOf d number place) (columnOf d number place)
+unfolding lineOf columnOf
+position-for d number place = (λ h. rw (h, lineOf, columnOf) (refl, refl), λ h. rw (h, lineOf, columnOf) (refl, refl))
+
+pub resolve-position : (document environment : List ℕ) (budget trailLength tableLength textLength : ℕ)
+    → let r = resolveJob document environment budget trailLength tableLength textLength in
+    PositionFor document (r .number) (r .place) (r .line) (r .column)
+unfolding resolveJob
+resolve-position d e budget l m n =
+    let r = resolved budget (roomOf l) (roomOf m) (roomOf n) (inputs (leb budget maxBudget) d e) in
+    position-for d (r .number) (r .place)
+
+pub check-position : (document environment trail table text : List ℕ)
+    → let v = checkJob document environment trail table text in PositionFor document (v .number) (v .place) (v .line) (v .column)
+unfolding hasPlace
+check-position d e trail table text = go (checkJob d e trail table text) (judgement d e trail table text)
+  where
+    go : (v : Verdict) → Judgement d e trail table text v → PositionFor d (v .number) (v .place) (v .line) (v .column)
+    go v (unread x k q) = rw q (position-for d (numberOf x) (placeOf x))
+    go v (read x k t q) = rw q (λ h. clash (cc), λ h. (refl, refl))
+    go v (not-accepted x k t q) = rw q (position-for d 17 0)
 
 pub look-up-place : (table text path : List ℕ) → lookUpJob table text path .place ≤ length path
 look-up-place table text path = looks.look-up-place table text path .0
@@ -128,8 +195,8 @@ refused-leaves-nothing d e budget l m n h = go (outcome d e budget l m n)
     go : Outcome d e budget l m n (resolveJob d e budget l m n)
         → (resolveJob d e budget l m n .count ≡ 0)
         × (buffersOf l m n (resolveJob d e budget l m n) ≡ record { trail = replicate l 0; table = replicate m 0; text = replicate n 0 })
-    go (unread x k q) = rw q (refl, zeroed l m n x)
-    go (stopped x k y w p q) = rw q (refl, zeroed l m n y)
+    go (unread x k q) = rw q (refl, zeroed d l m n x)
+    go (stopped x k y w p q) = rw q (refl, zeroed d l m n y)
     go (succeeded z p) = absurd (h z)
 
 -- "it hands back that part of the caller's own records", which is never empty, "or an empty part on refusal"
@@ -199,15 +266,15 @@ check-1 d e trail table text = (to (judgement d e trail table text), from (judge
 -- "1 to 8 and a reading 11 as in resolve": where the inputs or the reading are refused, check gives that refusal, and so does resolve
 pub check-reads-as-resolve : (document environment trail table text : List ℕ) (budget trailLength tableLength textLength : ℕ)
     → LentSheet trail table text → budget ≤ maxBudget → (x : Refusal) → inputs true document environment ≡ refused x
-    → (checkJob document environment trail table text ≡ record { number = numberOf x; place = placeOf x })
-    × (resolveJob document environment budget trailLength tableLength textLength ≡ refusedWith x)
+    → (checkJob document environment trail table text ≡ refusedAt document (numberOf x) (placeOf x))
+    × (resolveJob document environment budget trailLength tableLength textLength ≡ located document (refusedWith x))
 check-reads-as-resolve d e trail table text budget l m n (a, b, c) small x h = (
   go (judgement d e trail table text) (rw (lent-true d e trail table text a b c) h),
   resolve-unread d e budget l m n x (rw (le-leb budget maxBudget small) h),
 )
   where
     go : Judgement d e trail table text (checkJob d e trail table text) → inputs (lentBounds d e trail table text) d e ≡ refused x
-        → checkJob d e trail table text ≡ record { number = numberOf x; place = placeOf x }
+        → checkJob d e trail table text ≡ refusedAt d (numberOf x) (placeOf x)
     go (unread y k q) f = let i : y ≡ x = cc in rw (← i) q
     go (read y k t q) f = clash (cc)
     go (not-accepted y k t q) f = clash (cc)

@@ -21,7 +21,7 @@ use Rattle.rules.specs.Values.{Value, Answer, withinSize, recordSize, textSize,
 use Rattle.rules.specs.Documents.{Setting, Input, valid, refused, inputs}
 use Rattle.rules.specs.Sheet.{records, texts, trailTextSize, trailTexts, tableFits}
 use Rattle.rules.specs.LookUp.{isWhole, valueNamed}
-use Rattle.rules.specs.Jobs.{Resolved, roomOf, handedBack, resolved, resolveJob, notFound, foundAt, lookUpJob, partAt}
+use Rattle.rules.specs.Jobs.{Result, Resolved, roomOf, handedBack, resolved, resolveJob, notFound, foundAt, lookUpJob, partAt}
 use Rattle.theory_text.specs.Choices.{by-test}
 use Rattle.theory.specs.Layout.{both-true, length-records, length-texts, length-trailTexts}
 use Rattle.theory.specs.Ends.{nested}
@@ -113,18 +113,22 @@ accepted-table x a c s h =
     (omega (arith, sheet-sizes x a c s .2)))
 
 -- of what resolve hands back
-pub data HandedTable (r : Resolved) : Type 0 where
-  no-table : 1 ≤ r .number → r .table ≡ [] → HandedTable r
-  table-of-value : (v : Value) → TableOf (r .table) (r .text) v → HandedTable r
+pub data HandedTable (number : ℕ) (table text : List ℕ) : Type 0 where
+  no-table : 1 ≤ number → table ≡ [] → HandedTable number table text
+  table-of-value : (v : Value) → TableOf table text v → HandedTable number table text
+
+abbrev TableIn : Result → Type 0
+TableIn r = HandedTable (r .number) (r .table) (r .text)
 
 module _ (tableRoom textRoom : ℕ) (small : textRoom ≤ maxRoom) where
-  handed-table : {m : Res Refusal Answer Value} → Holds (λ y. 1 ≤ numberOf y) ⊥ (λ v S n. Unit {0}) m → HandedTable (handedBack tableRoom textRoom m)
+  handed-table : {m : Res Refusal Answer Value} → Holds (λ y. 1 ≤ numberOf y) ⊥ (λ v S n. Unit {0}) m
+      → TableIn (handedBack tableRoom textRoom m)
   unfolding handedBack tableFits
   handed-table (refuses h) = no-table h refl
   handed-table (dries h) = absurd h
   handed-table (answers {a = v} {S = S} h) =
-      by-test HandedTable (withinSize v)
-      (λ within. by-test HandedTable (tableFits tableRoom textRoom S v)
+      by-test TableIn (withinSize v)
+      (λ within. by-test TableIn (tableFits tableRoom textRoom S v)
       (λ fits. let text-fits = leb-true (trailTextSize S + textSize v) textRoom (both-true (leb (recordSize v) tableRoom) _ fits .1) in
       table-of-value v
       (table-of (trailTexts S) (trailTextSize S) v (length-trailTexts S) (nested v within) (within-records v within) (omega arith)))
@@ -135,12 +139,12 @@ module _ (document environment : List ℕ) (budget trailLength tableLength textL
   abbrev result : Resolved
   result = resolveJob document environment budget trailLength tableLength textLength
 
-  pub resolve-table : HandedTable result
+  pub resolve-table : HandedTable (result .number) (result .table) (result .text)
   unfolding resolveJob resolved
   resolve-table = go (inputs (leb budget maxBudget) document environment) refl
     where
       go : (i : Input Setting) → inputs (leb budget maxBudget) document environment ≡ i
-          → HandedTable (resolved budget (roomOf trailLength) (roomOf tableLength) (roomOf textLength) i)
+          → TableIn (resolved budget (roomOf trailLength) (roomOf tableLength) (roomOf textLength) i)
       go (refused x) e = no-table (inputs-end (leb budget maxBudget) document environment x e) refl
       go (valid x) e =
           handed-table (roomOf tableLength) (roomOf textLength) (omega arith)
@@ -150,7 +154,7 @@ module _ (document environment : List ℕ) (budget trailLength tableLength textL
   pub resolved-value : result .number ≡ 0 → (v : Value) × TableOf (result .table) (result .text) v
   resolved-value e = go resolve-table
     where
-      go : HandedTable result → (v : Value) × TableOf (result .table) (result .text) v
+      go : HandedTable (result .number) (result .table) (result .text) → (v : Value) × TableOf (result .table) (result .text) v
       go (no-table h q) = absurd (omega arith)
       go (table-of-value v t) = (v, t)
 

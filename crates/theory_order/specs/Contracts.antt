@@ -15,7 +15,7 @@ use Rattle.rules.specs.Tree.{Node, Elements, Root, rootNode, AllNode}
 use Rattle.rules.specs.Values.{Answer}
 use Rattle.rules.specs.Layers.{Layer, written, settled, Counted, nothing, one, merged}
 use Rattle.rules.specs.Documents.{Setting, countOf}
-use Rattle.rules.specs.Jobs.{Resolved, orderOf, handedBack}
+use Rattle.rules.specs.Jobs.{Result, orderOf, handedBack}
 use Rattle.theory.specs.Reach.{Each, InRange}
 use Rattle.theory.specs.SettledAnswers.{rootIn}
 use Rattle.theory_order.specs.Walks.{Ended, Kept, finish}
@@ -137,7 +137,7 @@ module _ (t : Task) where
 
   -- Settle the root, evaluate it once, hand back. Laws (Whole): where settling refuses, `root-refused`; else `root-answered`: the root's
   -- value is there, so that writing it meets no missing answer. There is no third way (`root-ends`).
-  unfoldable pub resolutionC : (tableRoom : ℕ) → Resolved
+  unfoldable pub resolutionC : (tableRoom : ℕ) → Result
   unfolding orderOf levelAt rootIn handedBack
   resolutionC tableRoom =
       handedBack tableRoom (t .textRoom) (after settleRootC (λ _ S n. finish (rootIn (lookup S) (treeOf t) 65) S n))

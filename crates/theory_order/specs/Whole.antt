@@ -15,7 +15,8 @@ use Rattle.rules.specs.Tree.{rootNode, heightOf}
 use Rattle.rules.specs.Values.{Value, Answer}
 use Rattle.rules.specs.Unresolved.{depthOf}
 use Rattle.rules.specs.Documents.{Setting, Input, valid, inputs}
-use Rattle.rules.specs.Jobs.{Resolved, refusedWith, roomOf, handedBack, resolved, resolveJob}
+use Rattle.rules.specs.Positions.{lineOf, columnOf}
+use Rattle.rules.specs.Jobs.{Result, Resolved, refusedWith, roomOf, handedBack, resolved, located, resolveJob}
 use Rattle.theory.specs.Numbering.{Prepared, prepared, numbers-below}
 use Rattle.theory.specs.Heights.{setting-height}
 use Rattle.theory.specs.Resolving.{rootOf, root-below, closed, laid-within}
@@ -33,7 +34,7 @@ use Rattle.theory_order.specs.Resolving.{kept-start, workingOf, kept-pro
 abbrev pub resolutionOf : Task → Res Refusal Answer Value
 resolutionOf t = resolve (rulesOf t) (t .budget) (rootOf (t .setting)) (questionsOf t)
 
-abbrev pub resolvedOf : Task → (tableRoom : ℕ) → Resolved
+abbrev pub resolvedOf : Task → (tableRoom : ℕ) → Result
 resolvedOf t tableRoom = resolved (t .budget) (t .trailRoom) tableRoom (t .textRoom) (valid (t .setting))
 
 -- ---- a document that was read
@@ -93,22 +94,23 @@ module _ (t : Task) (p : Prepared (t .setting .document)) (nested : heightOf (ro
 
 -- ---- any inputs
 
-unfoldable pub resolvedC : (budget trailRoom tableRoom textRoom : ℕ) → Input Setting → Resolved
+unfoldable pub resolvedC : (budget trailRoom tableRoom textRoom : ℕ) → Input Setting → Result
 unfolding refusedWith resolutionC
 resolvedC budget trailRoom tableRoom textRoom (Input.refused y) = refusedWith y
 resolvedC budget trailRoom tableRoom textRoom (valid x) =
     resolutionC (record { setting = x; budget = budget; trailRoom = trailRoom; textRoom = textRoom }) tableRoom
 
 unfoldable pub resolveJobC : (document environment : List ℕ) (budget trailLength tableLength textLength : ℕ) → Resolved
-unfolding inputs resolvedC
+unfolding inputs resolvedC lineOf columnOf
 resolveJobC document environment budget trailLength tableLength textLength =
-    resolvedC budget (roomOf trailLength) (roomOf tableLength) (roomOf textLength) (inputs (leb budget maxBudget) document environment)
+    located document
+    (resolvedC budget (roomOf trailLength) (roomOf tableLength) (roomOf textLength) (inputs (leb budget maxBudget) document environment))
 
 pub code-resolves : (document environment : List ℕ) (budget trailLength tableLength textLength : ℕ)
     → resolveJob document environment budget trailLength tableLength textLength
     ≡ resolveJobC document environment budget trailLength tableLength textLength
 unfolding resolveJob resolved resolveJobC resolvedC
-code-resolves d e budget l m n = go (inputs (leb budget maxBudget) d e) refl
+code-resolves d e budget l m n = ap (λ (r : Result). located d r) (go (inputs (leb budget maxBudget) d e) refl)
   where
     go : (i : Input Setting) → inputs (leb budget maxBudget) d e ≡ i
         → resolved budget (roomOf l) (roomOf m) (roomOf n) i ≡ resolvedC budget (roomOf l) (roomOf m) (roomOf n) i

@@ -1,4 +1,5 @@
--- The refusals that have place 0, of each job: "1", "13" to "17". And which numbers of resolve come from resolving alone.
+-- The refusals that have place 0, of each job: "1", "13" to "17"; and those of resolve and check that have a line and a column. And which
+-- numbers of resolve come from resolving alone.
 use mathlib.Core.Path.{_≡_, refl, sym, ap, _∙_}
 use Prim.Native.Nat.{ℕ, _≤_}
 use mathlib.Core.Bool.{Bool, true, false, _&&_}
@@ -12,19 +13,20 @@ use Rattle.answers.specs.Ask.{mem}
 use Rattle.answers.specs.Theory.Sound.{clash, All, mem-cases}
 use Rattle.rules.specs.Sizes.{maxBudget, maxNesting, maxRoom, maxPathText}
 use Rattle.rules.specs.Bytes.{Text}
-use Rattle.rules.specs.Refusals.{Refusal, nowhere, numberOf, placeOf, Scan, ok}
+use Rattle.rules.specs.Refusals.{Refusal, nowhere, numberOf, placeOf, offsetOf, Scan, ok}
 use Rattle.rules.specs.Utf8.{illFormed}
+use Rattle.rules.specs.Positions.{lineAt, columnAt, hasPlace}
 use Rattle.rules.specs.Paths.{pathText}
 use Rattle.rules.specs.Documents.{Setting, valid, refused, inputs}
 use Rattle.rules.specs.LookUp.{isWhole, afterValue, valueNamed}
-use Rattle.rules.specs.Jobs.{Resolved, refusedWith, resolveJob, checkJob, Found, notFound, foundAt, lookedUp, lookUpJob}
+use Rattle.rules.specs.Jobs.{Resolved, refusedWith, resolveJob, checkJob, Found, notFound, foundAt, lookedUp, lookUpJob, Verdict}
 use Rattle.theory_text.specs.Choices.{by-test, by-option}
 use Rattle.theory.specs.Scanning.{readingNumbers}
 use Rattle.theory.specs.ReadingEnds.{inputs-numbers}
 use Rattle.theory.specs.PathNumbers.{pathNumbers, path-text-numbers}
 use Rattle.theory.specs.JobRefusals.{Bounds, bad, good, bounds, resolvingNumbers, Outcome, unread, stopped, succeeded, outcome}
 use Rattle.theory.specs.JobRefusals.{lentBounds, Judgement, read, not-accepted, judgement}
-use Rattle.theory.specs.Promises.{OneOf}
+use Rattle.theory.specs.Promises.{OneOf, resolve-position, check-position}
 use Rattle.theory_refusals.specs.When.{place-13, place-14}
 
 -- a number stands in one of two lists that have none in common
@@ -35,6 +37,21 @@ apart (m ∷ ms) ns h n e f = elim (mem-cases m ms n e) [
       ∙ f))
   | inr k ↦ apart ms ns (h .1) n k f
 ]
+
+-- what holds of each number in a list holds of one that stands in it
+each : (P : ℕ → Type 0) (ns : List ℕ) → All P ns → (n : ℕ) → mem n ns ≡ true → P n
+each P [] h n e = clash (cc)
+each P (m ∷ ns) h n e = elim (mem-cases m ns n e) [ inl z ↦ rw (← z) (h .0) | inr k ↦ each P ns (h .1) n k ]
+
+-- the numbers whose place is one in a document, of resolve and check: 2 to 12
+abbrev pub inDocument : List ℕ
+inDocument = 2 ∷ 3 ∷ 4 ∷ 5 ∷ 6 ∷ 7 ∷ 8 ∷ 9 ∷ 10 ∷ 11 ∷ 12 ∷ []
+
+in-document : (n : ℕ) → OneOf inDocument n → hasPlace n ≡ true
+unfolding hasPlace
+in-document =
+    each (λ n. hasPlace n ≡ true) inDocument
+    (refl, (refl, (refl, (refl, (refl, (refl, (refl, (refl, (refl, (refl, (refl, tt)))))))))))
 
 -- where number 1 or one that reading does not give is given before resolving, it is 1
 first : (others : Bool) (d e : List ℕ) (ms : List ℕ) → All (λ a. mem a (2 ∷ readingNumbers) ≡ false) ms → (x : Refusal)
@@ -79,8 +96,8 @@ module _ (document environment : List ℕ) (budget trailLength tableLength textL
       go : Outcome document environment budget trailLength tableLength textLength job
           → OneOf resolveNowhere (job .number) → job .place ≡ 0
       go (unread x k q) m = ap (λ r. r .place) q
-          ∙ first others document environment resolveNowhere (refl, (refl, (refl, tt))) x k (rw q at m)
-      go (succeeded z p) m = p
+          ∙ ap offsetOf (first others document environment resolveNowhere (refl, (refl, (refl, tt))) x k (rw q at m))
+      go (succeeded z p) m = p .place
       go (stopped x k y w l q) m =
           let (is-read, modest) = given x k in
           elim (mem-cases 1 (13 ∷ 14 ∷ []) (job .number) m) [
@@ -94,7 +111,20 @@ module _ (document environment : List ℕ) (budget trailLength tableLength textL
             ]
           ]
 
-  -- they come only where the inputs are good and the document is read
+  -- "every refusal with a place in a document carries all three"
+  pub resolve-line : let r = resolveJob document environment budget trailLength tableLength textLength in
+      OneOf inDocument (r .number) → (r .line ≡ lineAt document (r .place)) × (r .column ≡ columnAt document (r .place))
+  resolve-line m = resolve-position document environment budget trailLength tableLength textLength .0 (in-document (job .number) m)
+
+  -- "All other places, those of 1, 13, 14 .. too, have line 0 and column 0."
+  pub resolve-line-0 : let r = resolveJob document environment budget trailLength tableLength textLength in
+      OneOf resolveNowhere (r .number) → (r .line ≡ 0) × (r .column ≡ 0)
+  unfolding hasPlace
+  resolve-line-0 m =
+      resolve-position document environment budget trailLength tableLength textLength .1
+      (each (λ n. hasPlace n ≡ false) resolveNowhere (refl, (refl, (refl, tt))) (job .number) m)
+
+  -- the numbers of resolving alone come only where the inputs are good and the document is read
   pub resolving-read : OneOf resolvingAlone (resolveJob document environment budget trailLength tableLength textLength .number)
       → (x : Setting) × (inputs true document environment ≡ valid x) × (budget ≤ maxBudget)
   unfolding refusedWith
@@ -122,9 +152,24 @@ check-place-0 d e trail table text m = go (judgement d e trail table text) m
     go : Judgement d e trail table text (checkJob d e trail table text) → OneOf checkNowhere (checkJob d e trail table text .number)
         → checkJob d e trail table text .place ≡ 0
     go (unread x k q) m =
-        ap (λ v. v .place) q ∙ first (lentBounds d e trail table text) d e checkNowhere (refl, (refl, tt)) x k (rw q at m)
+        ap (λ v. v .place) q ∙ ap offsetOf (first (lentBounds d e trail table text) d e checkNowhere (refl, (refl, tt)) x k (rw q at m))
     go (read x k t q) m = ap (λ v. v .place) q
     go (not-accepted x k t q) m = ap (λ v. v .place) q
+
+module _ (document environment trail table text : List ℕ) where
+  abbrev verdict : Verdict
+  verdict = checkJob document environment trail table text
+
+  pub check-line : let v = checkJob document environment trail table text in
+      OneOf inDocument (v .number) → (v .line ≡ lineAt document (v .place)) × (v .column ≡ columnAt document (v .place))
+  check-line m = check-position document environment trail table text .0 (in-document (verdict .number) m)
+
+  pub check-line-0 : let v = checkJob document environment trail table text in
+      OneOf checkNowhere (v .number) → (v .line ≡ 0) × (v .column ≡ 0)
+  unfolding hasPlace
+  check-line-0 m =
+      check-position document environment trail table text .1
+      (each (λ n. hasPlace n ≡ false) checkNowhere (refl, (refl, tt)) (verdict .number) m)
 
 -- ---- look-up
 

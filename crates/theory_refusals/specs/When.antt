@@ -14,12 +14,12 @@ use Rattle.answers.specs.Resolve.{Res, answer, dry, resolve, Rules}
 use Rattle.answers.specs.Theory.Sound.{clash}
 use Rattle.answers.specs.Theory.Holds.{Holds, dries}
 use Rattle.rules.specs.Sizes.{maxBudget}
-use Rattle.rules.specs.Refusals.{Refusal, placed, nowhere, spent, numberOf, placeOf}
+use Rattle.rules.specs.Refusals.{Refusal, placed, nowhere, spent, numberOf, placeOf, documentOf, offsetOf}
 use Rattle.rules.specs.Values.{Value, Answer, withinSize, recordSize, textSize}
 use Rattle.rules.specs.Unresolved.{Unresolved, answerOf}
 use Rattle.rules.specs.Documents.{Setting, valid, refused, inputs, ruleOf, countOf, firstByte}
 use Rattle.rules.specs.Sheet.{trailSize, trailTextSize, trailFits, tableFits}
-use Rattle.rules.specs.Jobs.{Resolved, refusedWith, roomOf, orderOf, handedBack, resolved, resolveJob}
+use Rattle.rules.specs.Jobs.{Result, refusedWith, roomOf, orderOf, handedBack, resolved, Resolved, located, resolveJob}
 use Rattle.theory.specs.Numbering.{prepared}
 use Rattle.theory.specs.Resolving.{RuleCase, ruled, past, rule-case, rootOf, closed, root-below, resolve-ordinary, resolve-holds}
 use Rattle.theory.specs.RuleRefusals.{only-refused, root-only}
@@ -27,9 +27,16 @@ use Rattle.theory.specs.BothJobs.{trailFits-inv, trailFits-intro, tableFits-inv
 use Rattle.theory_refusals.specs.WorkingOrder as order
 use Rattle.theory_refusals.specs.Pieces as pieces
 
--- a refusal's number and place
+-- a refusal's number and place: the job tells the place as its document and the offset in that
 abbrev pub At : Resolved → (number place : ℕ) → Type 0
-At r number place = (r .number ≡ number) × (r .place ≡ place)
+At r number place = (r .number ≡ number) × (r .document ≡ documentOf place) × (r .place ≡ offsetOf place)
+
+abbrev Gives : Result → (number place : ℕ) → Type 0
+Gives r number place = (r .number ≡ number) × (r .place ≡ place)
+
+-- document and offset together are the place
+one-place : (p q : ℕ) → documentOf p ≡ documentOf q → offsetOf p ≡ offsetOf q → p ≡ q
+one-place p q h k = omega arith
 
 module _ (x : Setting) (budget trailLength tableLength textLength : ℕ) where
   abbrev rules : Rules Refusal Answer
@@ -177,9 +184,28 @@ module _ (document environment : List ℕ) (budget trailLength tableLength textL
   abbrev resolution : Res Refusal Answer Value
   resolution = resolve (orderOf x (roomOf trailLength) (roomOf textLength)) budget (rootOf x) (countOf x)
 
-  job-is : job ≡ handedBack (roomOf tableLength) (roomOf textLength) resolution
+  -- what resolving comes to, before its place is told
+  abbrev result : Result
+  result = handedBack (roomOf tableLength) (roomOf textLength) resolution
+
+  job-is : job ≡ located document result
   unfolding resolveJob resolved
   job-is = rw (resolveJob, le-leb budget maxBudget modest, read, resolved)
+
+  job-number : job .number ≡ result .number
+  job-number = ap (λ r. r .number) job-is
+
+  job-place : job .place ≡ offsetOf (result .place)
+  job-place = ap (λ r. r .place) job-is
+
+  tells : {number place : ℕ} → Gives result number place → At job number place
+  tells (n, p) = (job-number ∙ n, ap (λ r. r .document) job-is ∙ ap documentOf p, job-place ∙ ap offsetOf p)
+
+  gives : {number place : ℕ} → At job number place → Gives result number place
+  gives {number} {place} (n, d, p) = (
+    sym job-number ∙ n,
+    one-place (result .place) place (sym (ap (λ r. r .document) job-is) ∙ d) (sym job-place ∙ p),
+  )
 
   refuses-exactly : (y : Refusal)
       → (resolution ≡ Res.refused y) ↔ order.Stopped (orderOf x (roomOf trailLength) (roomOf textLength)) budget (rootOf x) y
@@ -197,9 +223,9 @@ module _ (document environment : List ℕ) (budget trailLength tableLength textL
 
   -- ---- what the job gives has a reason
 
-  reason : (number place : ℕ) → 1 ≤ number → At job number place → Reason x budget trailLength tableLength textLength number place
+  reason : (number place : ℕ) → 1 ≤ number → Gives result number place → Reason x budget trailLength tableLength textLength number place
   unfolding handedBack refusedWith
-  reason number place l at = go resolution refl (ap (λ r. r .number) job-is) (ap (λ r. r .place) job-is)
+  reason number place l at = go resolution refl refl refl
     where
       fueled : (y : Refusal) → resolution ≡ Res.refused y → y ≡ spent → ⊥
       fueled y e z =
@@ -207,14 +233,14 @@ module _ (document environment : List ℕ) (budget trailLength tableLength textL
           let ordinary = resolve-ordinary x p (roomOf trailLength) (roomOf textLength) budget y e in
           absurd (omega (arith, ordinary .1, ap numberOf z))
 
-      found : {k p : ℕ} → job .number ≡ k → job .place ≡ p → Reason x budget trailLength tableLength textLength k p
+      found : {k p : ℕ} → result .number ≡ k → result .place ≡ p → Reason x budget trailLength tableLength textLength k p
           → Reason x budget trailLength tableLength textLength number place
       found e f r = rw (sym (at .0) ∙ e, sym (at .1) ∙ f) r
 
       rooted : (v : Value) (S : Trail Answer) (n : ℕ) → resolution ≡ answer v S n → (t u : Bool) → withinSize v ≡ t
           → tableFits (roomOf tableLength) (roomOf textLength) S v ≡ u
-          → job .number ≡ handedBack (roomOf tableLength) (roomOf textLength) (answer v S n) .number
-          → job .place ≡ handedBack (roomOf tableLength) (roomOf textLength) (answer v S n) .place
+          → result .number ≡ handedBack (roomOf tableLength) (roomOf textLength) (answer v S n) .number
+          → result .place ≡ handedBack (roomOf tableLength) (roomOf textLength) (answer v S n) .place
           → Reason x budget trailLength tableLength textLength number place
       rooted v S n e false u w f h k =
           found (rw (handedBack, w) at h) (rw (handedBack, w) at k) (large refl refl (inr (v, S, n, answers-exactly v S n .0 e, w)))
@@ -223,8 +249,8 @@ module _ (document environment : List ℕ) (budget trailLength tableLength textL
           (full refl refl (inr (v, S, n, answers-exactly v S n .0 e, w, table-unfit x budget trailLength tableLength textLength S v f)))
       rooted v S n e true true w f h k = absurd (omega (arith, l, at .0, rw (handedBack, w, f) at h))
 
-      go : (m : Res Refusal Answer Value) → resolution ≡ m → job .number ≡ handedBack (roomOf tableLength) (roomOf textLength) m .number
-          → job .place ≡ handedBack (roomOf tableLength) (roomOf textLength) m .place
+      go : (m : Res Refusal Answer Value) → resolution ≡ m → result .number ≡ handedBack (roomOf tableLength) (roomOf textLength) m .number
+          → result .place ≡ handedBack (roomOf tableLength) (roomOf textLength) m .place
           → Reason x budget trailLength tableLength textLength number place
       go (Res.refused y) e h k =
           let (stack, S, n, comes, stops) = refuses-exactly y .0 e in
@@ -240,17 +266,18 @@ module _ (document environment : List ℕ) (budget trailLength tableLength textL
   -- ---- and every reason comes true
 
   stops-at : (stack : List ℕ) (S : Trail Answer) (n : ℕ) → Comes x budget trailLength tableLength textLength stack S n → (y : Refusal)
-      → order.Stops (orderOf x (roomOf trailLength) (roomOf textLength)) budget (rootOf x) stack S n y → At job (numberOf y) (placeOf y)
+      → order.Stops (orderOf x (roomOf trailLength) (roomOf textLength)) budget (rootOf x) stack S n y
+      → Gives result (numberOf y) (placeOf y)
   unfolding handedBack refusedWith
   stops-at stack S n h y s =
-      let e : job ≡ refusedWith y = job-is
-      ∙ ap (handedBack (roomOf tableLength) (roomOf textLength)) (refuses-exactly y .1 (stack, S, n, h, s)) in
+      let e : result ≡ refusedWith y
+      = ap (handedBack (roomOf tableLength) (roomOf textLength)) (refuses-exactly y .1 (stack, S, n, h, s)) in
       (ap (λ r. r .number) e, ap (λ r. r .place) e)
 
   -- the rules of the unresolved value that is being worked out refuse
   rules-at : (b : ℕ) (u : Unresolved) (S : Trail Answer) → Working x budget trailLength tableLength textLength b u S → (y : Refusal)
       → (y ≡ spent → ⊥)
-      → pieces.Refusing (x .document .root) (x .environment) (u .openness) (lookup S) (u .pieces) y → At job (numberOf y) (placeOf y)
+      → pieces.Refusing (x .document .root) (x .environment) (u .openness) (lookup S) (u .pieces) y → Gives result (numberOf y) (placeOf y)
   unfolding orderOf ruleOf
   rules-at b u S w y fueled r =
       let runs = pieces.rule-refuses (x .document .root) (x .environment) (u .openness) (lookup S) (u .pieces) y fueled .1 r in
@@ -261,16 +288,16 @@ module _ (document environment : List ℕ) (budget trailLength tableLength textL
       rule-is b u e = rw (ruleOf, e)
 
   root-at : (v : Value) (S : Trail Answer) (n : ℕ) → RootIs x budget trailLength tableLength textLength v S n
-      → job ≡ handedBack (roomOf tableLength) (roomOf textLength) (answer v S n)
-  root-at v S n h = job-is ∙ ap (handedBack (roomOf tableLength) (roomOf textLength)) (answers-exactly v S n .1 h)
+      → result ≡ handedBack (roomOf tableLength) (roomOf textLength) (answer v S n)
+  root-at v S n h = ap (handedBack (roomOf tableLength) (roomOf textLength)) (answers-exactly v S n .1 h)
 
   -- ---- the six
 
   -- A required substitution of the value that is being worked out is undefined upon the trail so far, and the pieces before it are good.
   pub resolve-9 : (place : ℕ) → At job 9 place ↔ Undefined x budget trailLength tableLength textLength place
   resolve-9 place = (
-    λ at. to (reason 9 place (omega arith) at),
-    λ (b, u, S, w, r). rules-at b u S w (placed 9 place) (λ z. clash (cc (z))) (pieces.undefined place r refl),
+    λ at. to (reason 9 place (omega arith) (gives at)),
+    λ (b, u, S, w, r). tells (rules-at b u S w (placed 9 place) (λ z. clash (cc (z))) (pieces.undefined place r refl)),
   )
     where
       to : Reason x budget trailLength tableLength textLength 9 place → Undefined x budget trailLength tableLength textLength place
@@ -285,8 +312,8 @@ module _ (document environment : List ℕ) (budget trailLength tableLength textL
   pub resolve-10 : (place : ℕ) → At job 10 place ↔ Circular x budget trailLength tableLength textLength place
   unfolding orderOf
   resolve-10 place = (
-    λ at. to (reason 10 place (omega arith) at),
-    λ (stack, S, n, h, q, w, busy, e). rw e (stops-at stack S n h (placed 10 (firstByte x q)) (order.circular q w busy refl)),
+    λ at. to (reason 10 place (omega arith) (gives at)),
+    λ (stack, S, n, h, q, w, busy, e). tells (rw e (stops-at stack S n h (placed 10 (firstByte x q)) (order.circular q w busy refl))),
   )
     where
       to : Reason x budget trailLength tableLength textLength 10 place → Circular x budget trailLength tableLength textLength place
@@ -300,8 +327,8 @@ module _ (document environment : List ℕ) (budget trailLength tableLength textL
   -- A piece of the value that is being worked out is within its size, and of another kind than the first defined piece before it.
   pub resolve-11 : (place : ℕ) → At job 11 place ↔ Mixed x budget trailLength tableLength textLength place
   resolve-11 place = (
-    λ at. to (reason 11 place (omega arith) at),
-    λ (b, u, S, w, r). rules-at b u S w (placed 11 place) (λ z. clash (cc (z))) (pieces.mixed place r refl),
+    λ at. to (reason 11 place (omega arith) (gives at)),
+    λ (b, u, S, w, r). tells (rules-at b u S w (placed 11 place) (λ z. clash (cc (z))) (pieces.mixed place r refl)),
   )
     where
       to : Reason x budget trailLength tableLength textLength 11 place → Mixed x budget trailLength tableLength textLength place
@@ -316,8 +343,9 @@ module _ (document environment : List ℕ) (budget trailLength tableLength textL
   pub resolve-12 : (place : ℕ) → At job 12 place ↔ Excess x budget trailLength tableLength textLength place
   unfolding orderOf
   resolve-12 place = (
-    λ at. to (reason 12 place (omega arith) at),
-    λ (stack, S, n, h, q, w, idle, all, e). rw e (stops-at stack S n h (placed 12 (firstByte x q)) (order.excess q w idle all refl)),
+    λ at. to (reason 12 place (omega arith) (gives at)),
+    λ (stack, S, n, h, q, w, idle, all, e).
+        tells (rw e (stops-at stack S n h (placed 12 (firstByte x q)) (order.excess q w idle all refl))),
   )
     where
       to : Reason x budget trailLength tableLength textLength 12 place → Excess x budget trailLength tableLength textLength place
@@ -332,9 +360,9 @@ module _ (document environment : List ℕ) (budget trailLength tableLength textL
   -- table is.
   pub resolve-13 : (job .number ≡ 13) ↔ OverSize x budget trailLength tableLength textLength
   unfolding handedBack refusedWith
-  resolve-13 = (λ e. to (reason 13 (job .place) (omega arith) (e, refl)), from)
+  resolve-13 = (λ e. to (reason 13 (result .place) (omega arith) (sym job-number ∙ e, refl)), λ r. job-number ∙ from r)
     where
-      to : Reason x budget trailLength tableLength textLength 13 (job .place) → OverSize x budget trailLength tableLength textLength
+      to : Reason x budget trailLength tableLength textLength 13 (result .place) → OverSize x budget trailLength tableLength textLength
       to (undefined e r) = absurd (omega arith)
       to (circular e r) = absurd (omega arith)
       to (mixed e r) = absurd (omega arith)
@@ -342,7 +370,7 @@ module _ (document environment : List ℕ) (budget trailLength tableLength textL
       to (large e p r) = r
       to (full e p r) = absurd (omega arith)
 
-      from : OverSize x budget trailLength tableLength textLength → job .number ≡ 13
+      from : OverSize x budget trailLength tableLength textLength → result .number ≡ 13
       from (inl (b, u, S, w, r)) = rules-at b u S w (nowhere 13) (λ z. absurd (omega (arith, ap numberOf z))) (pieces.large r refl) .0
       from (inr (v, S, n, h, w)) = ap (λ r. r .number) (root-at v S n h) ∙ rw (handedBack, w)
 
@@ -350,9 +378,9 @@ module _ (document environment : List ℕ) (budget trailLength tableLength textL
   -- within its size and does not fit.
   pub resolve-14 : (job .number ≡ 14) ↔ NoRoom x budget trailLength tableLength textLength
   unfolding handedBack refusedWith orderOf
-  resolve-14 = (λ e. to (reason 14 (job .place) (omega arith) (e, refl)), from)
+  resolve-14 = (λ e. to (reason 14 (result .place) (omega arith) (sym job-number ∙ e, refl)), λ r. job-number ∙ from r)
     where
-      to : Reason x budget trailLength tableLength textLength 14 (job .place) → NoRoom x budget trailLength tableLength textLength
+      to : Reason x budget trailLength tableLength textLength 14 (result .place) → NoRoom x budget trailLength tableLength textLength
       to (undefined e r) = absurd (omega arith)
       to (circular e r) = absurd (omega arith)
       to (mixed e r) = absurd (omega arith)
@@ -360,7 +388,7 @@ module _ (document environment : List ℕ) (budget trailLength tableLength textL
       to (large e p r) = absurd (omega arith)
       to (full e p r) = r
 
-      from : NoRoom x budget trailLength tableLength textLength → job .number ≡ 14
+      from : NoRoom x budget trailLength tableLength textLength → result .number ≡ 14
       from (inl (b, u, S, w, a, runs, unfit)) =
           stops-at (b ∷ w .outer) S (w .begun) (w .comes) (nowhere 14)
           (order.full b (w .outer) refl a runs (unfit-trail x budget trailLength tableLength textLength ((b, a) ∷ S) unfit) refl) .0
@@ -370,9 +398,9 @@ module _ (document environment : List ℕ) (budget trailLength tableLength textL
   -- ---- "0" is the place of 13 and 14
 
   pub place-13 : job .number ≡ 13 → job .place ≡ 0
-  place-13 e = to (reason 13 (job .place) (omega arith) (e, refl))
+  place-13 e = job-place ∙ ap offsetOf (to (reason 13 (result .place) (omega arith) (sym job-number ∙ e, refl)))
     where
-      to : Reason x budget trailLength tableLength textLength 13 (job .place) → job .place ≡ 0
+      to : Reason x budget trailLength tableLength textLength 13 (result .place) → result .place ≡ 0
       to (undefined e r) = absurd (omega arith)
       to (circular e r) = absurd (omega arith)
       to (mixed e r) = absurd (omega arith)
@@ -381,9 +409,9 @@ module _ (document environment : List ℕ) (budget trailLength tableLength textL
       to (full e p r) = p
 
   pub place-14 : job .number ≡ 14 → job .place ≡ 0
-  place-14 e = to (reason 14 (job .place) (omega arith) (e, refl))
+  place-14 e = job-place ∙ ap offsetOf (to (reason 14 (result .place) (omega arith) (sym job-number ∙ e, refl)))
     where
-      to : Reason x budget trailLength tableLength textLength 14 (job .place) → job .place ≡ 0
+      to : Reason x budget trailLength tableLength textLength 14 (result .place) → result .place ≡ 0
       to (undefined e r) = absurd (omega arith)
       to (circular e r) = absurd (omega arith)
       to (mixed e r) = absurd (omega arith)

@@ -1,6 +1,7 @@
 //! The exported resolve and check as Rust calls them.
 
 use crate::plain_resolve::Sheet;
+use crate::positions::{self, Position};
 use crate::Refusal;
 
 /// What resolve says beside the three buffers: the count and the used lengths.
@@ -18,7 +19,8 @@ impl From<&Sheet> for Done {
     }
 }
 
-/// The exported resolve, with its answer taken apart. Panics if a bit is set that its case leaves unused.
+/// The exported resolve, with its answer taken apart. Panics if a bit is set that its case leaves unused, and if a refusal's document, line
+/// or column is not the one that is counted.
 pub fn resolve(
     document: &[u8],
     environment: &[u8],
@@ -29,7 +31,7 @@ pub fn resolve(
 ) -> Result<Done, Refusal> {
     let word = exported::resolve(document, environment, budget, trail, table, text);
     let field = |shift: u32, bits: u32| (word >> shift & ((1 << bits) - 1)) as usize;
-    if let Some(refusal) = refusal(word) {
+    if let Some(refusal) = refusal(document, word) {
         return Err(refusal);
     }
     assert!(word >> 63 == 0, "done, with bits set past the lengths: {word:#x}");
@@ -39,20 +41,25 @@ pub fn resolve(
 /// The exported check, likewise.
 pub fn check(document: &[u8], environment: &[u8], trail: &[u8], table: &[u8], text: &[u8]) -> Result<(), Refusal> {
     let word = exported::check(document, environment, trail, table, text);
-    if let Some(refusal) = refusal(word) {
+    if let Some(refusal) = refusal(document, word) {
         return Err(refusal);
     }
     assert!(word == 0, "accepted, with bits set: {word:#x}");
     Ok(())
 }
 
-fn refusal(word: u64) -> Option<Refusal> {
+fn refusal(document: &[u8], word: u64) -> Option<Refusal> {
     let number = (word % 64) as u8;
     if number == 0 {
         return None;
     }
-    assert!(word >> 22 == 0, "refused, with bits set past the place: {word:#x}");
-    Some(Refusal { number, place: usize::from((word >> 6) as u16) })
+    assert!(word >> 58 == 0, "refused, with bits set past the column: {word:#x}");
+    let field = |shift: u32| usize::from((word >> shift) as u16);
+    let refusal = Refusal { number, place: field(6) };
+    let told = Position { document: field(22) % 16, line: field(26), column: field(42) };
+    let counted = positions::counted(document, &refusal);
+    assert!(told == counted, "{refusal:?}: the library tells {told:?}, and {counted:?} is counted");
+    Some(refusal)
 }
 
 mod exported {

@@ -11,6 +11,7 @@ pub mod plain_read;
 pub mod plain_resolve;
 pub mod plain_tree;
 pub mod plain_values;
+pub mod positions;
 pub mod profiles;
 pub mod random;
 pub mod sheets;

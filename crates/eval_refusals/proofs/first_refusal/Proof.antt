@@ -11,6 +11,10 @@ Inv-loop table bytes₀ env stack₀ base room₀ list n number place i₀ bytes
 abbrev μ-loop : tie.MeasureT-loop
 μ-loop table bytes₀ env stack₀ base room₀ list n number place i₀ bytes stack room i = n - i
 
+-- named, so that it is judged by itself where a call before it is refused too
+returns : tie.Need-returns Inv-loop μ-loop
+returns c = search scans
+
 pub first-refusal-spec : {M : Type 1} → statement M
 first-refusal-spec =
     tie.close
@@ -25,7 +29,7 @@ first-refusal-spec =
     (λ c. search needs)
     (λ c. search needs)
     (λ c. search needs)
-    (λ c. search scans)
+    returns
     (λ c. search needs)
     (λ c. search needs)
     (λ c. search scans)
