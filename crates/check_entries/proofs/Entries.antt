@@ -22,8 +22,8 @@ use Rattle.sheet_kept.specs.Kept.{Held, named}
 use Rattle.sheet_kept.specs.Sizes.{kept-records}
 use Rattle.eval_writer.specs.Contracts.{InRoom}
 use Rattle.eval_writer.specs.declared.Out.{Out}
-use Rattle.eval_finished.specs.Contracts.{Full}
-use Rattle.eval_compared.specs.Contracts.{EntryAsked, SameEntryIs, SameUndefinedIs}
+use Rattle.eval_store.specs.Values.Contracts.{Full}
+use Rattle.eval_store.specs.Compare.Contracts.{EntryAsked, SameEntryIs, SameUndefinedIs}
 use Rattle.eval_state.specs.Contracts as kept
 use Rattle.check_entries.specs.Contracts.{Right, Open, AnswerAsked, AnswerIs, UndefinedAsked, UndefinedIs}
 use Rattle.check_entries.specs.declared.Reached.{Reached}

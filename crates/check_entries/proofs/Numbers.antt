@@ -11,8 +11,8 @@ use Rattle.rules.specs.Sheet.{pairAt, trailSize}
 use Rattle.theory_check.specs.Steps.{nextNumber, check-twice, check-past, check-short}
 use Rattle.doc_items.specs.Room.{answersAt}
 use Rattle.doc_items.specs.Writing.{ReadIs}
-use Rattle.sheet_kinds.specs.Contracts.{PairIs, Lent}
-use Rattle.eval_tables.specs.Finished.{Memory}
+use Rattle.sheet_records.specs.Kinds.Contracts.{PairIs, Lent}
+use Rattle.eval_memory.specs.Finished.{Memory}
 use Rattle.eval_state.specs.Memories.{answersOf}
 use Rattle.eval_state.specs.State.{AnswerIn}
 use Rattle.check_entries.specs.Contracts.{NextAsked, NextIs}

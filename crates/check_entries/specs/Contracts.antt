@@ -15,7 +15,7 @@ use Rattle.rules.specs.Checking.{accepted}
 use Rattle.theory_check.specs.Steps.{CheckAt, nextNumber}
 use Rattle.sheet_kept.specs.Kept.{Held, named}
 use Rattle.eval_writer.specs.declared.Out.{Out}
-use Rattle.eval_finished.specs.Contracts.{Full}
+use Rattle.eval_store.specs.Values.Contracts.{Full}
 use Rattle.eval_state.specs.Memories.{jobTable, jobBytes}
 use Rattle.eval_state.specs.State.{State}
 use Rattle.eval_state.specs.Contracts.{Finished}

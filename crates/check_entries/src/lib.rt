@@ -1,10 +1,13 @@
 // Entries of a lent trail, held against the rules' answers. Of an entry that was not found right its number alone is read; what was found
 // right is kept for those behind it.
 // Computes: Checking (answerFor, entriesFrom)
-use eval_compared::same_entry;
-use eval_compared::same_undefined;
+
+pub mod tables;
+
 use eval_state::keep_answer;
 use eval_state::keep_undefined;
+use eval_store::compare::same_entry;
+use eval_store::compare::same_undefined;
 use eval_writer::Out;
 use sheet_sizes::ENTRY;
 use text_chars::RecAt;
@@ -45,7 +48,7 @@ pub fn next_number(table: &[u16], trail: &[u8], used: RecAt, count: usize) -> Ne
     if trail.len() < u + ENTRY {
         return Next::Wrong;
     }
-    let b = sheet_kinds::pair_at(trail, RecAt(u + NUMBER));
+    let b = sheet_records::kinds::pair_at(trail, RecAt(u + NUMBER));
     if b < count {
         if doc_items::number_at(table, doc_items::ANSWERS + b) == 0 {
             return Next::Number(b);

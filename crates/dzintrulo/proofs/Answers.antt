@@ -3,10 +3,10 @@ use mathlib.Core.Path.{_≡_, _∙_, ap}
 use mathlib.Core.List.{List}
 use Prim.Native.Nat.{ℕ}
 use Rattle.rules.specs.Jobs as J
-use Rattle.job_answers.specs.Answers.{jobOf, packed, Packable}
-use Rattle.job_answers.specs.declared.Found.{Found}
-use Rattle.text_micrometres.specs.Contracts.{measuredOf}
-use Rattle.text_micrometres.specs.declared.Measured.{Measured}
+use Rattle.sheet_paths.specs.Answers.{jobOf, packed, Packable}
+use Rattle.sheet_paths.specs.declared.Found.{Found}
+use Rattle.text_lengths.specs.Micrometres.Contracts.{measuredOf}
+use Rattle.text_lengths.specs.declared.micrometres.Measured.{Measured}
 use Rattle.job_length.specs.Packed.{packedLength}
 use Rattle.job_look_up.specs.LookUpJob.{answer-packable}
 use Rattle.rules_profile.specs.Profile.{profileJob}

@@ -4,11 +4,11 @@ use Prim.Native.Nat.{ℕ}
 use mathlib.Core.List.{List}
 use lib.ListN.{length}
 use Rattle.rules.specs.Positions.{hasPlace}
-use Rattle.job_resolved.specs.Answers.{Located, resolutionTold, locatedTold, packedResolution, Packable}
-use Rattle.job_resolved.specs.Unpacking.{packable}
-use Rattle.job_resolved.specs.Bits.{resolve-roomy, resolve-short}
-use Rattle.job_resolved.specs.Contracts.{ResolveIs, PackedResolveIs}
-use Rattle.job_resolved.specs.declared.Resolution.{Resolution}
+use Rattle.job_results.specs.Answers.{Located, resolutionTold, locatedTold, packedResolution, Packable}
+use Rattle.job_results.specs.Unpacking.{packable}
+use Rattle.job_results.specs.Bits.{resolve-roomy, resolve-short}
+use Rattle.job_results.specs.Contracts.{ResolveIs, PackedResolveIs}
+use Rattle.job_results.specs.declared.Resolution.{Resolution}
 
 module _ {d e : List ℕ} {budget : ℕ} {b c f b′ c′ f′ : List ℕ} {q : Resolution} (R : ResolveIs d e budget b c f b′ c′ f′ q) where
   pub resolution-packable : Packable d q

@@ -3,11 +3,11 @@ use mathlib.Core.Path.{_≡_, _∙_, ap}
 use Prim.Native.Nat.{ℕ}
 use mathlib.Core.List.{List}
 use Rattle.rules.specs.Jobs.{checkJob}
-use Rattle.job_resolved.specs.Answers.{verdictOf, packedVerdict, PackableVerdict}
-use Rattle.job_resolved.specs.Unpacking.{packable-verdict}
-use Rattle.job_resolved.specs.Bits.{check-roomy, check-short}
-use Rattle.job_resolved.specs.Contracts.{CheckIs}
-use Rattle.job_resolved.specs.declared.Verdict.{Verdict}
+use Rattle.job_results.specs.Answers.{verdictOf, packedVerdict, PackableVerdict}
+use Rattle.job_results.specs.Unpacking.{packable-verdict}
+use Rattle.job_results.specs.Bits.{check-roomy, check-short}
+use Rattle.job_results.specs.Contracts.{CheckIs}
+use Rattle.job_results.specs.declared.Verdict.{Verdict}
 
 module _ {document environment trail table text : List ℕ} {v : Verdict} (C : CheckIs document environment trail table text v) where
   pub verdict-packable : PackableVerdict document v

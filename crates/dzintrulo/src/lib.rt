@@ -2,9 +2,9 @@
 // Computes: Jobs (resolveJob, buffersOf, checkJob, lookUpJob, lengthJob), Profile (profileJob)
 ghost use mathlib.Core.Path.{_≡_};
 ghost use Rattle.rules.specs.Jobs.{checkJob, lookUpJob, lengthJob};
-ghost use Rattle.job_resolved.specs.Answers.{packedVerdict};
-ghost use Rattle.job_resolved.specs.Contracts.{PackedResolveIs};
-ghost use Rattle.job_answers.specs.Answers.{packed};
+ghost use Rattle.job_results.specs.Answers.{packedVerdict};
+ghost use Rattle.job_results.specs.Contracts.{PackedResolveIs};
+ghost use Rattle.sheet_paths.specs.Answers.{packed};
 ghost use Rattle.job_length.specs.Packed.{packedLength};
 ghost use Rattle.rules_profile.specs.Profile.{profileJob};
 ghost use Rattle.job_profile.specs.Packed.{packedProfile};
@@ -23,7 +23,7 @@ pub extern "C" fn dz_resolve(
         (now (trail .entry)) (now (table .entry)) (now (text .entry)) (now (trail .exit)) (now (table .exit)) (now (text .exit)) r ⌝ }
 {
     let r = job_resolve::resolve(document, environment, budget, trail, table, text);
-    job_resolved::pack_resolution(document, r)
+    job_results::pack_resolution(document, r)
 }
 
 /// Check for C.
@@ -39,7 +39,7 @@ pub extern "C" fn dz_check(
         (now (trail .entry)) (now (table .entry)) (now (text .entry))) ⌝ }
 {
     let verdict = job_check::check(document, environment, trail, table, text);
-    job_resolved::pack_verdict(document, verdict)
+    job_results::pack_verdict(document, verdict)
 }
 
 /// Look-up for C.
@@ -47,7 +47,7 @@ pub extern "C" fn dz_check(
 pub extern "C" fn dz_look_up(table: &[u8], text: &[u8], path: &[u8]) -> u64
     ensures { λ r. ⌜ r ≡ packed (lookUpJob (now (table .entry)) (now (text .entry)) (now (path .entry))) ⌝ }
 {
-    job_answers::pack(job_look_up::look_up_answer(table, text, path))
+    sheet_paths::pack(job_look_up::look_up_answer(table, text, path))
 }
 
 /// A looked-up value's length for C.

@@ -20,20 +20,20 @@ use Rattle.theory_order.specs.Looking.{pieceIn}
 use Rattle.text_chars.specs.declared.DocAt.{DocAt}
 use Rattle.doc_items.specs.Room.{capacity}
 use Rattle.eval_writer.specs.Contracts.{Room}
-use Rattle.eval_extents.specs.declared.Extent.{Extent}
-use Rattle.eval_taken.specs.Levels.{same-below}
+use Rattle.eval_results.specs.declared.extents.Extent.{Extent}
+use Rattle.eval_groups.specs.Select.Levels.{same-below}
 use Rattle.eval_state.specs.Memories.{answersOf}
 use Rattle.eval_value_laws.specs.Contracts.{Left}
 use Rattle.eval_value_laws.specs.Frames.{left-all, left-then}
 use Rattle.eval_pieces.specs.Contracts.{Lent, PieceCase, PieceIs}
 use Rattle.eval_pieces.specs.declared.Piece.{Piece}
-use Rattle.eval_piece_items.specs.Contracts.{endC, EndIs, NextIs}
-use Rattle.eval_piece_values.specs.Contracts.{PieceAsked, PieceValueIs, ValueCase}
-use Rattle.eval_piece_values.specs.declared.PieceValue.{PieceValue}
-use Rattle.eval_questions.specs.Contracts.{Asked, Questioned}
-use Rattle.eval_questions.specs.Standing.{pieces-begin, pieces-end, node-given, reference-given}
-use Rattle.eval_pieces_joined.specs.Contracts.{Behind}
-use Rattle.eval_pieces_joined.specs.Several.{behind-left, inside, behind-next, behind-end}
+use Rattle.eval_pieces.specs.Cursor.Contracts.{endC, EndIs, NextIs}
+use Rattle.eval_unresolved.specs.Single.Contracts.{PieceAsked, PieceValueIs, ValueCase}
+use Rattle.eval_unresolved.specs.declared.single.PieceValue.{PieceValue}
+use Rattle.eval_question_laws.specs.Contracts.{Asked, Questioned}
+use Rattle.eval_question_laws.specs.Standing.{pieces-begin, pieces-end, node-given, reference-given}
+use Rattle.eval_unresolved.specs.Pieces.Contracts.{Behind}
+use Rattle.eval_unresolved.specs.Pieces.Several.{behind-left, inside, behind-next, behind-end}
 use Rattle.eval_ahead.specs.Contracts.{Starts, FirstIs, Found, FinishedAsked, FinishedIs, MissedCase, LackIs, MissedAsked, MissedIs, Passes, here, more, Stops, AheadIs}
 use Rattle.eval_ahead.specs.declared.Lack.{Lack}
 use Rattle.eval_ahead.specs.declared.Awaited.{Awaited}

@@ -1,4 +1,4 @@
--- What looking ahead promises. Needs are those of the theory (Skeletons); a position among the pieces is eval_pieces_joined's `Behind`.
+-- What looking ahead promises. Needs are those of the theory (Skeletons); a position among the pieces is eval_unresolved's `Behind`.
 use mathlib.Core.Path.{_≡_}
 use Prim.Native.Nat.{ℕ, _+_, _≤_, _<_}
 use mathlib.Core.Bool.{Bool, true}
@@ -20,9 +20,9 @@ use Rattle.eval_writer.specs.Contracts.{Room}
 use Rattle.eval_value_laws.specs.Contracts.{Left}
 use Rattle.eval_pieces.specs.Contracts.{PieceCase}
 use Rattle.eval_pieces.specs.declared.Piece.{Piece}
-use Rattle.eval_piece_items.specs.Contracts.{endC}
-use Rattle.eval_questions.specs.Contracts.{Asked, Questioned}
-use Rattle.eval_pieces_joined.specs.Contracts.{Behind}
+use Rattle.eval_pieces.specs.Cursor.Contracts.{endC}
+use Rattle.eval_question_laws.specs.Contracts.{Asked, Questioned}
+use Rattle.eval_unresolved.specs.Pieces.Contracts.{Behind}
 use Rattle.eval_ahead.specs.declared.Lack.{Lack}
 use Rattle.eval_ahead.specs.declared.Awaited.{Awaited}
 

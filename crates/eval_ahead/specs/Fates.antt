@@ -13,7 +13,7 @@ use Rattle.rules.specs.Unresolved.{Unresolved}
 use Rattle.rules.specs.Documents.{Setting}
 use Rattle.theory_order.specs.Skeletons.{restOf, Needed, needsOf}
 use Rattle.theory_order.specs.Looking.{look-stops, look-passes}
-use Rattle.eval_questions.specs.Contracts.{Questioned}
+use Rattle.eval_question_laws.specs.Contracts.{Questioned}
 use Rattle.eval_ahead.specs.Contracts.{Passes, here, more, Stops}
 
 rest-low : (ps : Pieces) (h : ℕ) → highestPiece ps ≤ h → highestPiece (restOf ps) ≤ h

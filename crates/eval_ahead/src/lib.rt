@@ -1,17 +1,17 @@
 // What the pieces of an unresolved value need, from one on: looked for with no join between them.
 // Computes: the first missing answer of the pieces, as answers' fate
 use doc_items::CAPACITY;
-use eval_piece_items::next_piece;
-use eval_piece_items::pieces_end;
-use eval_piece_values::PieceValue;
-use eval_piece_values::value_of;
 use eval_pieces::Piece;
+use eval_pieces::cursor::next_piece;
+use eval_pieces::cursor::pieces_end;
 use eval_pieces::piece_of;
 use eval_stack::code_at;
+use eval_unresolved::single::PieceValue;
+use eval_unresolved::single::value_of;
 ghost use Prim.Native.Nat.{_<_};
 ghost use Rattle.doc_items.specs.Room.{capacity};
-ghost use Rattle.eval_questions.specs.Contracts.{Asked};
-ghost use Rattle.eval_piece_values.specs.Contracts.{PieceAsked};
+ghost use Rattle.eval_question_laws.specs.Contracts.{Asked};
+ghost use Rattle.eval_unresolved.specs.Single.Contracts.{PieceAsked};
 ghost use Rattle.eval_ahead.specs.Contracts.{FirstIs, FinishedAsked, FinishedIs, LackIs, MissedAsked, MissedIs, AheadIs};
 
 /// What one piece misses.

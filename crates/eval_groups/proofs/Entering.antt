@@ -8,8 +8,8 @@ use lib.Dec.{eqb}
 use lib.ListN.{length, set, length-set}
 use borrow.Author.Tests.{lt-ltb, le-ltb}
 use Rattle.doc_items.specs.Writing.{ReadIs}
-use Rattle.eval_members.specs.Model.{keyAt}
-use Rattle.eval_members.specs.Contracts.{KeyIs}
+use Rattle.eval_nodes.specs.Model.{keyAt}
+use Rattle.eval_nodes.specs.Contracts.{KeyIs}
 use Rattle.eval_stack.specs.Model.{stackAt, entries, Work}
 use Rattle.eval_stack.specs.Contracts.{CodeIs, LinkIs}
 use Rattle.eval_groups.specs.Model.{holdsKeyC, putEntryC, joinGroupC, beginGroupC, placed, putC}

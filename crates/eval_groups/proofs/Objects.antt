@@ -4,11 +4,11 @@ use mathlib.Core.List.{List, _++_}
 use Prim.Native.Nat.{ℕ, _+_, _-_, _*_, _≤_, _<_}
 use native.Mathlib.Omega.{arith}
 use lib.ListN.{length, getD}
-use Rattle.eval_members.specs.Model.{keyAt, membersOf}
-use Rattle.eval_members.specs.Contracts.{MemberIs, ViewIs}
-use Rattle.eval_members.specs.Members.{members-end, members-skip, members-one, skip-less, one-less, member-small, key-small}
-use Rattle.eval_members.specs.declared.Member.{Member}
-use Rattle.eval_members.specs.declared.View.{View}
+use Rattle.eval_nodes.specs.Model.{keyAt, membersOf}
+use Rattle.eval_nodes.specs.Contracts.{MemberIs, ViewIs}
+use Rattle.eval_nodes.specs.Members.{members-end, members-skip, members-one, skip-less, one-less, member-small, key-small}
+use Rattle.eval_nodes.specs.declared.Member.{Member}
+use Rattle.eval_nodes.specs.declared.View.{View}
 use Rattle.eval_stack.specs.Model.{stackAt, codeAt, seg}
 use Rattle.eval_stack.specs.Contracts.{CodeIs}
 use Rattle.eval_stack.specs.Pushes.{seg-last}

@@ -4,7 +4,7 @@ use Prim.Native.Nat.{ℕ, _+_, _-_, _*_, _≤_, _<_}
 use mathlib.Core.Bool.{Bool}
 use mathlib.Core.List.{List}
 use lib.ListN.{length, getD}
-use Rattle.eval_members.specs.Model.{keyAt}
+use Rattle.eval_nodes.specs.Model.{keyAt}
 use Rattle.eval_stack.specs.Model.{stackAt, seg}
 use Rattle.eval_groups.specs.Model.{holdsKeyC, State, addC, addMembersC, objectMembers}
 

@@ -11,3 +11,4 @@ pub mod Entries
 pub mod Room
 pub mod Shown
 pub mod Examples
+pub mod Select

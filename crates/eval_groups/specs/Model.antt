@@ -4,8 +4,8 @@ use mathlib.Core.Bool.{Bool, true, false, cond}
 use mathlib.Core.List.{List, [], _∷_, _++_}
 use lib.Dec.{ltb, eqb}
 use lib.ListN.{getD, set}
-use Rattle.eval_members.specs.Model.{viewAt, membersOf}
-use Rattle.eval_members.specs.declared.View.{View}
+use Rattle.eval_nodes.specs.Model.{viewAt, membersOf}
+use Rattle.eval_nodes.specs.declared.View.{View}
 use Rattle.eval_stack.specs.Model.{stackAt, entries, codeAt, linkAt}
 
 -- whether p, which stands for k in front of the stack, is a member with k: what is left from before fails a test

@@ -2,9 +2,13 @@
 // before it. In front of the stack stands for each key number the place of its first member; nothing there is cleared, so what is left from
 // before is told by a test.
 // Computes: Layers (keysInOrder and deeper, by the model in specs/Model)
-use eval_members::Member;
-use eval_members::View;
-use eval_members::key_of;
+
+pub mod select;
+pub mod sources;
+
+use eval_nodes::Member;
+use eval_nodes::View;
+use eval_nodes::key_of;
 use eval_stack::ENTRIES;
 use eval_stack::LINK;
 use eval_stack::STACK;
@@ -13,8 +17,8 @@ use eval_stack::code_at;
 use eval_stack::link_at;
 ghost use Prim.Native.Nat.{_≤_, _<_};
 ghost use Rattle.doc_items.specs.Room.{capacity, numberBound};
-ghost use Rattle.eval_members.specs.Contracts.{Few};
-ghost use Rattle.eval_members.specs.Model.{membersOf};
+ghost use Rattle.eval_nodes.specs.Contracts.{Few};
+ghost use Rattle.eval_nodes.specs.Model.{membersOf};
 ghost use Rattle.eval_stack.specs.Model.{entries, Work};
 ghost use Rattle.eval_groups.specs.Model.{putEntryC, joinGroupC, beginGroupC, layerMembers};
 ghost use Rattle.eval_groups.specs.Contracts.{HoldsKeyIs, WorkIs, AddIs, AddMembersIs, MembersIs};
@@ -113,7 +117,7 @@ fn add_members(
     let mut at = from;
     let mut t = top;
     loop {
-        match eval_members::member_at(table, records, at, end) {
+        match eval_nodes::member_at(table, records, at, end) {
             Member::End => {
                 return t;
             }
@@ -141,7 +145,7 @@ fn add_layer(
     ensures { λ r. ⌜ AddMembersIs (now (table .entry)) (now (records .entry)) base (layerMembers (now (table .entry)) (now
         (records .entry)) layer) (now (work .entry)) top (now (work .exit)) r ⌝ }
 {
-    match eval_members::view_of(table, records, layer) {
+    match eval_nodes::view_of(table, records, layer) {
         View::Other => top,
         View::Object { first, end } => add_members(table, records, work, base, top, first, end),
     }

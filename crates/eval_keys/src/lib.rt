@@ -3,8 +3,8 @@
 //   KEYS     of a field its key's number
 //   BUCKETS  of each bucket its newest number
 //   LINKS    of a number the next one of its bucket
-//   FIRST    of a number the root's first field with it (crate eval_root)
-//   NEXT     of a field of the root the next one with its number (crate eval_root)
+//   FIRST    of a number the root's first field with it (crate eval_root_index)
+//   NEXT     of a field of the root the next one with its number (crate eval_root_index)
 // Computes: Bytes
 use codes::limits;
 use doc_items::CAPACITY;

@@ -1,3 +1,4 @@
 pub mod Walks
 pub mod Picks
 pub mod Tops
+pub mod Depths

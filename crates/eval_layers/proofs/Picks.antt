@@ -4,10 +4,10 @@ use mathlib.Core.List.{List}
 use Prim.Native.Nat.{ℕ, _-_, _≤_}
 use native.Mathlib.Omega.{arith}
 use lib.ListN.{length}
-use Rattle.eval_members.specs.Model.{membersOf}
-use Rattle.eval_members.specs.Contracts.{MemberIs}
-use Rattle.eval_members.specs.Members.{members-end, members-skip, members-one, skip-less, one-less, member-small}
-use Rattle.eval_members.specs.declared.Member.{Member}
+use Rattle.eval_nodes.specs.Model.{membersOf}
+use Rattle.eval_nodes.specs.Contracts.{MemberIs}
+use Rattle.eval_nodes.specs.Members.{members-end, members-skip, members-one, skip-less, one-less, member-small}
+use Rattle.eval_nodes.specs.declared.Member.{Member}
 use Rattle.eval_stack.specs.Model.{entries, Work}
 use Rattle.eval_stack.specs.Contracts.{Same}
 use Rattle.eval_layers.specs.Model.{Walk, pushNamedC, pushMembersC}

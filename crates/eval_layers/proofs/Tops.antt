@@ -5,9 +5,9 @@ use Prim.Native.Nat.{ℕ, _+_, _-_, _≤_, _<_}
 use native.Mathlib.Omega.{arith}
 use lib.ListN.{length}
 use borrow.Author.Tests.{eq-eqb, ne-eqb}
-use Rattle.eval_members.specs.Model.{viewAt}
-use Rattle.eval_members.specs.Contracts.{ViewIs}
-use Rattle.eval_members.specs.declared.View.{View}
+use Rattle.eval_nodes.specs.Model.{viewAt}
+use Rattle.eval_nodes.specs.Contracts.{ViewIs}
+use Rattle.eval_nodes.specs.declared.View.{View}
 use Rattle.eval_stack.specs.Model.{entries, Work, codeAt, seg, seg-length}
 use Rattle.eval_stack.specs.Contracts.{CodeIs, PushIs, Same}
 use Rattle.eval_stack.specs.Pushes.{seg-last, seg-none, same-code, push-grows}

@@ -4,10 +4,10 @@ use mathlib.Core.List.{List, []}
 use Prim.Native.Nat.{ℕ, _-_, _≤_}
 use native.Mathlib.Omega.{arith}
 use borrow.Author.Tests.{eq-eqb, ne-eqb}
-use Rattle.eval_answers.specs.declared.Answered.{Answered}
-use Rattle.eval_members.specs.Model.{keyAt}
-use Rattle.eval_members.specs.Contracts.{AnsweredIs, KeyIs}
-use Rattle.eval_members.specs.Members.{layer-small}
+use Rattle.eval_nodes.specs.declared.answer.Answered.{Answered}
+use Rattle.eval_nodes.specs.Model.{keyAt}
+use Rattle.eval_nodes.specs.Contracts.{AnsweredIs, KeyIs}
+use Rattle.eval_nodes.specs.Members.{layer-small}
 use Rattle.eval_stack.specs.Model.{entries, Work}
 use Rattle.eval_stack.specs.Contracts.{PushIs}
 use Rattle.eval_stack.specs.Pushes.{seg-none, push-grows}

@@ -16,12 +16,12 @@ use Rattle.rules.specs.NamedValues.{memberOf, DistinctMembers}
 use Rattle.rules.specs.Weights.{weightOf, weightOfFields, weightOfMembers, weightOfValue, weightOfLayer, weigh}
 use Rattle.theory.specs.Layout.{same-eq}
 use Rattle.theory.specs.Room.{node-weighs, value-weighs, length-weighs, node-pushed, deeper-weighs}
-use Rattle.eval_members.specs.Model.{viewAt, membersOf}
-use Rattle.eval_members.specs.declared.View.{View}
-use Rattle.eval_tables.specs.Keys.{Means}
-use Rattle.eval_tables.specs.Finished.{Memory}
-use Rattle.eval_tables.specs.Tables.{Tables, KeyOf, Match, match-length, key-test}
-use Rattle.eval_tables.specs.Views.{FieldsListed, MembersListed, Viewed, viewed}
+use Rattle.eval_nodes.specs.Model.{viewAt, membersOf}
+use Rattle.eval_nodes.specs.declared.View.{View}
+use Rattle.eval_memory.specs.Keys.{Means}
+use Rattle.eval_memory.specs.Finished.{Memory}
+use Rattle.eval_memory.specs.Tables.{Tables, KeyOf, Match, match-length, key-test}
+use Rattle.eval_memory.specs.Views.{FieldsListed, MembersListed, Viewed, viewed}
 use Rattle.eval_layers.specs.Model.{Walk, pushLayerC, pushNamedC, pushMembersC, insideBy, deeperC}
 use Rattle.eval_layers.specs.Shows.{Ended, WalkShows, lay-layer, lay-node}
 use Rattle.eval_layers.specs.declared.Stuck.{Stuck}

@@ -11,12 +11,12 @@ use Rattle.rules.specs.Tree.{simple, array, object, unresolved}
 use Rattle.rules.specs.Values.{scalar, arrayOf, objectOf, Answer}
 use Rattle.rules.specs.Layers.{Layer, written, settled, Counted, nothing, one, merged, ofObjects, ofOther}
 use Rattle.rules.specs.Settled.{Ending, no, at, Given, endOf, gatherIn}
-use Rattle.eval_members.specs.Model.{viewAt}
-use Rattle.eval_members.specs.declared.View.{View}
+use Rattle.eval_nodes.specs.Model.{viewAt}
+use Rattle.eval_nodes.specs.declared.View.{View}
 use Rattle.eval_stack.specs.Model.{entries, seg}
-use Rattle.eval_tables.specs.Finished.{Memory, Stored}
-use Rattle.eval_tables.specs.Tables.{Shows, Match, match-length, match-reverse}
-use Rattle.eval_tables.specs.Views.{Viewed, viewed}
+use Rattle.eval_memory.specs.Finished.{Memory, Stored}
+use Rattle.eval_memory.specs.Tables.{Shows, Match, match-length, match-reverse}
+use Rattle.eval_memory.specs.Views.{Viewed, viewed}
 use Rattle.eval_layers.specs.Model.{ofEndC, ofOtherC, gatherBy, gatherC}
 use Rattle.eval_layers.specs.Contracts.{TakenIs, GatherIs}
 use Rattle.eval_layers.specs.Shows.{Ended, push-room}

@@ -5,9 +5,9 @@ use mathlib.Core.Bool.{cond}
 use mathlib.Core.List.{List, [], _∷_}
 use lib.Dec.{eqb}
 use lib.ListN.{length}
-use Rattle.eval_answers.specs.declared.Answered.{Answered}
-use Rattle.eval_members.specs.Model.{answeredAt, viewAt, keyAt, membersOf}
-use Rattle.eval_members.specs.declared.View.{View}
+use Rattle.eval_nodes.specs.declared.answer.Answered.{Answered}
+use Rattle.eval_nodes.specs.Model.{answeredAt, viewAt, keyAt, membersOf}
+use Rattle.eval_nodes.specs.declared.View.{View}
 use Rattle.eval_stack.specs.Model.{pushC}
 use Rattle.eval_layers.specs.declared.Stuck.{Stuck}
 use Rattle.eval_layers.specs.declared.Taken.{Taken}

@@ -11,12 +11,12 @@ use Rattle.rules.specs.Values.{Answer}
 use Rattle.rules.specs.Layers.{Layer, written}
 use Rattle.rules.specs.Settled.{Ending, no, at, Settled, push, pushAnswer, pushNode}
 use Rattle.doc_items.specs.Room.{capacity, answersAt}
-use Rattle.eval_answers.specs.Model.{answered}
-use Rattle.eval_answers.specs.declared.Answered.{Answered}
-use Rattle.eval_members.specs.Model.{answeredAt}
+use Rattle.eval_nodes.specs.Answer.Model.{answered}
+use Rattle.eval_nodes.specs.declared.answer.Answered.{Answered}
+use Rattle.eval_nodes.specs.Model.{answeredAt}
 use Rattle.eval_stack.specs.Model.{pushC}
-use Rattle.eval_tables.specs.Finished.{Memory}
-use Rattle.eval_tables.specs.Tables.{WrittenAt, AnswerAt, Tables, Shows, Match, layer-shown, unresolved-shown}
+use Rattle.eval_memory.specs.Finished.{Memory}
+use Rattle.eval_memory.specs.Tables.{WrittenAt, AnswerAt, Tables, Shows, Match, layer-shown, unresolved-shown}
 use Rattle.eval_layers.specs.Model.{Walk, pushLayerBy, pushLayerC}
 use Rattle.eval_layers.specs.declared.Stuck.{Stuck}
 

@@ -1,20 +1,21 @@
 // Layers on the stack. The layers of a path stand on it one above the other, the last written on top; one key deeper they stand above
 // them. All are walked at once: the answers do not change meanwhile, and a mark says where a missing one ended the walk. Keys are numbers.
-// Computes: Layers (gather; deeper, with eval_deeper; by the model in specs/Model)
-use eval_answers::Answered;
-use eval_members::Member;
-use eval_members::View;
+// The layers one key deeper than those of a part of the stack.
+// Computes: Layers (gather, deeper; by the model in specs/Model)
+use eval_nodes::Member;
+use eval_nodes::View;
+use eval_nodes::answer::Answered;
 use eval_stack::code_at;
 use eval_stack::push;
 ghost use mathlib.Core.Path.{_≡_};
 ghost use Prim.Native.Nat.{_<_, _-_};
 ghost use Rattle.doc_items.specs.Room.{numberBound};
-ghost use Rattle.eval_members.specs.Contracts.{Few};
-ghost use Rattle.eval_members.specs.Model.{membersOf};
+ghost use Rattle.eval_nodes.specs.Contracts.{Few};
+ghost use Rattle.eval_nodes.specs.Model.{membersOf, viewAt};
 ghost use Rattle.eval_stack.specs.Model.{entries};
-ghost use Rattle.eval_stack.specs.Contracts.{Stack};
-ghost use Rattle.eval_layers.specs.Model.{pushLayerC, pushNamedC, pushMembersC, ofOtherC, ofEndC};
-ghost use Rattle.eval_layers.specs.Contracts.{walked, WalkedIs, GatherIs};
+ghost use Rattle.eval_stack.specs.Contracts.{Stack, Segment};
+ghost use Rattle.eval_layers.specs.Model.{pushLayerC, pushNamedC, pushMembersC, ofOtherC, ofEndC, insideBy};
+ghost use Rattle.eval_layers.specs.Contracts.{walked, WalkedIs, GatherIs, DeeperIs};
 
 /// Where a walk ended: at the end of the layers, or at an unresolved value that has no answer yet.
 pub enum Stuck {
@@ -61,7 +62,7 @@ pub fn push_layer(
     ensures { λ r. ⌜ WalkedIs base (now (work .entry)) (now (work .exit)) r (pushLayerC (now (table .entry)) (entries - base) layer
         (walked (now (work .entry)) base walk)) ⌝ }
 {
-    match eval_members::layer_of(table, layer) {
+    match eval_nodes::layer_of(table, layer) {
         Answered::Layer(d) => {
             let top = push(work, walk.top, d);
             let stuck = walk.stuck;
@@ -89,7 +90,7 @@ fn push_named(
     ensures { λ r. ⌜ WalkedIs base (now (work .entry)) (now (work .exit)) r (pushNamedC (now (table .entry)) (now (records .entry)) key
         (entries - base) layer (walked (now (work .entry)) base walk)) ⌝ }
 {
-    if eval_members::key_of(table, records, layer) == key {
+    if eval_nodes::key_of(table, records, layer) == key {
         return push_layer(table, work, base, walk, layer);
     }
     walk
@@ -113,7 +114,7 @@ pub fn push_members_named(
     let mut at = from;
     let mut t = walk;
     loop {
-        match eval_members::member_at(table, records, at, end) {
+        match eval_nodes::member_at(table, records, at, end) {
             Member::End => {
                 return t;
             }
@@ -166,7 +167,7 @@ pub fn gather(table: &[u16], records: &[u8], work: &mut [u16], part: Part) -> Ta
     let mut top = hi;
     while lo < i {
         let layer = code_at(work, i - 1);
-        match eval_members::view_of(table, records, layer) {
+        match eval_nodes::view_of(table, records, layer) {
             View::Other => {
                 return of_other(layer, hi, top);
             }
@@ -177,4 +178,54 @@ pub fn gather(table: &[u16], records: &[u8], work: &mut [u16], part: Part) -> Ta
         }
     }
     of_end(stuck, hi, top)
+}
+
+// One layer, above what those below it gave.
+fn inside(
+    table: &[u16],
+    records: &[u8],
+    work: &mut [u16],
+    base: usize,
+    walk: Walked,
+    key: usize,
+    layer: usize,
+) -> Walked
+    requires { ⌜ Few (now records) × Stack base (walk .top) (now work) ⌝ }
+    ensures { λ r. ⌜ WalkedIs base (now (work .entry)) (now (work .exit)) r (insideBy (now (table .entry)) (now (records .entry)) key
+        (entries - base) (walked (now (work .entry)) base walk) (viewAt (now (table .entry)) (now (records .entry)) layer)) ⌝ }
+{
+    match eval_nodes::view_of(table, records, layer) {
+        View::Other => Walked {
+            top: base,
+            stuck: Stuck::No,
+        },
+        View::Object { first, end } => {
+            push_members_named(table, records, work, base, walk, key, first, end)
+        }
+    }
+}
+
+/// The layers one key deeper, from base on, of the layers of a part.
+pub fn deeper(
+    table: &[u16],
+    records: &[u8],
+    work: &mut [u16],
+    part: Part,
+    base: usize,
+    key: usize,
+) -> Walked
+    requires { ⌜ Few (now records) × Segment (part .lo) (part .hi) base (now work) ⌝ }
+    ensures { λ r. ⌜ DeeperIs (now (table .entry)) (now (records .entry)) (part .lo) (part .hi) (part .stuck) base key
+        (now (work .entry)) (now (work .exit)) r ⌝ }
+{
+    let hi = part.hi;
+    let stuck = part.stuck;
+    let mut i = part.lo;
+    let mut walk = Walked { top: base, stuck };
+    while i < hi {
+        let layer = code_at(work, i);
+        walk = inside(table, records, work, base, walk, key, layer);
+        i += 1;
+    }
+    walk
 }

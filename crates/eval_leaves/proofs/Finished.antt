@@ -4,10 +4,10 @@ use mathlib.Core.List.{List}
 use native.Mathlib.Omega.{arith}
 use lib.ListN.{length}
 use Rattle.eval_writer.specs.declared.Out.{Out}
-use Rattle.eval_records.specs.Contracts.{mostBytes, farthest, Span}
-use Rattle.eval_records.specs.declared.Copied.{Copied}
-use Rattle.eval_copies.specs.Copies.{copy-read}
-use Rattle.eval_copies.specs.Contracts.{ValueIs, CopyIs}
+use Rattle.eval_writer.specs.Copies.Contracts.{mostBytes, farthest, Span}
+use Rattle.eval_writer.specs.declared.copies.Copied.{Copied}
+use Rattle.eval_copy.specs.Copies.{copy-read}
+use Rattle.eval_copy.specs.Contracts.{ValueIs, CopyIs}
 
 pub copy-starts : {s : List ℕ} {p : ℕ} {o : Out} → length s ≤ mostBytes → o .rec .0 ≤ farthest → o .text .0 ≤ farthest → Span s p o
 copy-starts l r t = record { rec = omega arith; text = omega arith; bytes = l }

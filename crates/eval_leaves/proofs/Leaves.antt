@@ -9,12 +9,12 @@ use Rattle.sheet_kept.specs.Kept.{simple, named}
 use Rattle.eval_writer.specs.Contracts.{KeyWrote}
 use Rattle.eval_writer.specs.declared.Out.{Out}
 use Rattle.eval_writer.specs.declared.Source.{Source}
-use Rattle.eval_copies.specs.Contracts.{CopyAsked, CopyIs}
-use Rattle.eval_records.specs.declared.Copied.{Copied}
-use Rattle.eval_extents.specs.Contracts.{ClipOutIs, ClipIs, Bounded}
-use Rattle.eval_extents.specs.Came.{came-clipped}
-use Rattle.eval_extents.specs.declared.Extent.{Extent}
-use Rattle.eval_worked.specs.declared.Worked.{Worked}
+use Rattle.eval_copy.specs.Contracts.{CopyAsked, CopyIs}
+use Rattle.eval_writer.specs.declared.copies.Copied.{Copied}
+use Rattle.eval_results.specs.Extents.Contracts.{ClipOutIs, ClipIs, Bounded}
+use Rattle.eval_results.specs.Extents.Came.{came-clipped}
+use Rattle.eval_results.specs.declared.extents.Extent.{Extent}
+use Rattle.eval_results.specs.declared.values.Worked.{Worked}
 use Rattle.eval_leaves.specs.Contracts.{SimpleIs, SimpleValueIs, FinishedAsked, FinishedIs, KeyBeforeIs}
 
 clip-bounded : {o : Out} {d : ℕ} {e : Extent} → ClipIs o d e → Bounded e

@@ -19,12 +19,12 @@ use Rattle.eval_writer.specs.Contracts.{Room, Written, KeyWrote}
 use Rattle.eval_writer.specs.Keys.{KeysIn}
 use Rattle.eval_writer.specs.declared.Out.{Out}
 use Rattle.eval_writer.specs.declared.Source.{Source}
-use Rattle.eval_tables.specs.Keys.{KeyNumber, EachKey}
-use Rattle.eval_records.specs.Contracts.{mostBytes}
-use Rattle.eval_extents.specs.Contracts.{NotPast, ClipOutIs}
-use Rattle.eval_worked.specs.Contracts.{WorkedWithin}
-use Rattle.eval_worked.specs.Comes.{Comes}
-use Rattle.eval_worked.specs.declared.Worked.{Worked}
+use Rattle.eval_memory.specs.Keys.{KeyNumber, EachKey}
+use Rattle.eval_writer.specs.Copies.Contracts.{mostBytes}
+use Rattle.eval_results.specs.Extents.Contracts.{NotPast, ClipOutIs}
+use Rattle.eval_results.specs.Values.Contracts.{WorkedWithin}
+use Rattle.eval_results.specs.Values.Comes.{Comes}
+use Rattle.eval_results.specs.declared.values.Worked.{Worked}
 
 -- an item, a member or a piece, holds a simple value
 pub record HoldsSimple (T B : List ℕ) (i : ℕ) (x : Scalar) : Type 0 where

@@ -8,25 +8,25 @@ use doc_items::SHEET;
 use doc_items::TRAIL;
 use doc_items::WIDTH;
 use doc_items::number_at;
-use eval_answers::Answered;
+use eval_groups::sources::element_at;
+use eval_groups::sources::members_from;
+use eval_groups::sources::take_from;
 use eval_layers::Taken;
-use eval_members::Member;
-use eval_members::layer_of;
-use eval_need_laws::Kind;
-use eval_need_laws::Met;
-use eval_need_laws::Need;
-use eval_need_laws::Span;
-use eval_sources::element_at;
-use eval_sources::members_from;
-use eval_sources::take_from;
+use eval_nodes::Member;
+use eval_nodes::answer::Answered;
+use eval_nodes::layer_of;
+use eval_settle_laws::Kind;
+use eval_settle_laws::Met;
+use eval_settle_laws::Need;
+use eval_settle_laws::Span;
 use eval_stack::code_at;
 use eval_stack::link_at;
 use eval_stack::push;
 use eval_writer::Source;
 use text_chars::RecAt;
 use text_chars::TextAt;
-ghost use Rattle.eval_need_laws.specs.Needs.{LayerAsked, LayerIs, ObjectsAsked, ObjectsIs};
-ghost use Rattle.eval_need_laws.specs.Needs.{KeyAsked, KeyIs, ElementAsked, ElementIs, PlaceAsked, PlaceIs};
+ghost use Rattle.eval_settle_laws.specs.Needs.{LayerAsked, LayerIs, ObjectsAsked, ObjectsIs};
+ghost use Rattle.eval_settle_laws.specs.Needs.{KeyAsked, KeyIs, ElementAsked, ElementIs, PlaceAsked, PlaceIs};
 
 // Where the answers stand in the job's bytes.
 const ANSWERS: Source = Source {

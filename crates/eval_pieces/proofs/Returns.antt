@@ -12,16 +12,16 @@ use Rattle.text_chars.specs.declared.EnvAt.{EnvAt}
 use Rattle.text_chars.specs.declared.EnvLen.{EnvLen}
 use Rattle.doc_items.specs.Codes.{referenceCode}
 use Rattle.doc_items.specs.Room.{capacity, trailAt}
-use Rattle.eval_members.specs.Contracts.{Few}
+use Rattle.eval_nodes.specs.Contracts.{Few}
 use Rattle.eval_stack.specs.Model.{entries, Work}
 use Rattle.eval_stack.specs.Contracts.{Same, PushIs}
 use Rattle.eval_stack.specs.Pushes.{same-lower, push-grows}
 use Rattle.eval_layers.specs.Contracts.{GatherIs}
 use Rattle.eval_layers.specs.declared.Part.{Part}
 use Rattle.eval_layers.specs.declared.Taken.{Taken}
-use Rattle.eval_references.specs.Contracts.{PathLayersIs}
-use Rattle.eval_names.specs.Contracts.{askedOf, AskedIs, substitution-at}
-use Rattle.eval_names.specs.declared.Asked.{Asked}
+use Rattle.eval_substitutions.specs.Contracts.{PathLayersIs}
+use Rattle.eval_environment.specs.Contracts.{askedOf, AskedIs, substitution-at}
+use Rattle.eval_environment.specs.declared.Asked.{Asked}
 use Rattle.eval_state.specs.Memories.{answersOf}
 use Rattle.eval_pieces.specs.Contracts.{Lent, EnvironmentIs, ReferenceIs, LiteralIs, PieceIs}
 use Rattle.eval_pieces.specs.Tops.{gathered-low, gathered-high}

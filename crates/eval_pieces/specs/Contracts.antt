@@ -28,10 +28,10 @@ use Rattle.doc_items.specs.Room.{capacity, trailAt}
 use Rattle.read_numbering.specs.Contracts.{PathFits}
 use Rattle.eval_stack.specs.Model.{entries, Work}
 use Rattle.eval_stack.specs.Contracts.{Same}
-use Rattle.eval_tables.specs.Finished.{Memory}
-use Rattle.eval_tables.specs.Tables.{Number, WrittenAt, Tables}
-use Rattle.eval_references.specs.Documents.{Standing, UnresolvedAt}
-use Rattle.eval_names.specs.Contracts.{SubstitutionAt}
+use Rattle.eval_memory.specs.Finished.{Memory}
+use Rattle.eval_memory.specs.Tables.{Number, WrittenAt, Tables}
+use Rattle.eval_substitutions.specs.Documents.{Standing, UnresolvedAt}
+use Rattle.eval_environment.specs.Contracts.{SubstitutionAt}
 use Rattle.eval_state.specs.Memories.{jobBytes, answersOf}
 use Rattle.eval_value_laws.specs.Contracts.{mergedBy, LayerGiven, ObjectsGiven}
 use Rattle.eval_value_laws.specs.Counting.{NoObject}

@@ -4,3 +4,4 @@ pub mod Heights
 pub mod Tops
 pub mod References
 pub mod Literals
+pub mod Cursor

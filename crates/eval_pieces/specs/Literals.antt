@@ -16,8 +16,8 @@ use Rattle.doc_items.specs.Codes.{codeOf}
 use Rattle.eval_stack.specs.Model.{entries, Work, codePlace, codeAt}
 use Rattle.eval_stack.specs.Contracts.{PushIs}
 use Rattle.eval_stack.specs.Pushes.{pushed-room, top-room}
-use Rattle.eval_tables.specs.Finished.{Memory}
-use Rattle.eval_tables.specs.Tables.{code-small}
+use Rattle.eval_memory.specs.Finished.{Memory}
+use Rattle.eval_memory.specs.Tables.{code-small}
 use Rattle.eval_value_laws.specs.Contracts.{Ground, LayerGiven}
 use Rattle.eval_value_laws.specs.Given.{object-given, object-value}
 use Rattle.eval_pieces.specs.Contracts.{levels, LiteralGiven, OneOf, MergedOf}

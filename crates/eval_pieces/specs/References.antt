@@ -21,20 +21,20 @@ use Rattle.theory_back.specs.Uses.{layers-of}
 use Rattle.doc_items.specs.Codes.{numberAt}
 use Rattle.doc_items.specs.Parts.{numbers}
 use Rattle.eval_stack.specs.Model.{entries, seg, seg-length}
-use Rattle.eval_tables.specs.Finished.{Memory}
-use Rattle.eval_tables.specs.Tables.{Number, Shows, match-length}
+use Rattle.eval_memory.specs.Finished.{Memory}
+use Rattle.eval_memory.specs.Tables.{Number, Shows, match-length}
 use Rattle.eval_layers.specs.Contracts.{GatherIs}
 use Rattle.eval_layers.specs.Gather.{TakenShows, nothing-shows, one-shows, needs-shows, merged-shows, gather-shows}
 use Rattle.eval_layers.specs.declared.Part.{Part}
 use Rattle.eval_layers.specs.declared.Taken.{Taken}
 use Rattle.eval_groups.specs.Room as groups
-use Rattle.eval_taken.specs.Uses.{Merging, merges}
-use Rattle.eval_routes.specs.Elements.{item-read}
-use Rattle.eval_paths.specs.Model.{parted}
-use Rattle.eval_paths.specs.WalkPath.{Roomy}
-use Rattle.eval_references.specs.Contracts.{PathLayersIs}
-use Rattle.eval_references.specs.Documents.{PathNumbers}
-use Rattle.eval_references.specs.LayersFor.{layers-show}
+use Rattle.eval_groups.specs.Select.Uses.{Merging, merges}
+use Rattle.eval_substitutions.specs.Keys.Elements.{item-read}
+use Rattle.eval_substitutions.specs.Paths.Model.{parted}
+use Rattle.eval_substitutions.specs.Paths.WalkPath.{Roomy}
+use Rattle.eval_substitutions.specs.Contracts.{PathLayersIs}
+use Rattle.eval_substitutions.specs.Documents.{PathNumbers}
+use Rattle.eval_substitutions.specs.LayersFor.{layers-show}
 use Rattle.eval_value_laws.specs.Counting.{NoObject, one-low, merged-low, merged-high}
 use Rattle.eval_value_laws.specs.OneRoom.{one-elements}
 use Rattle.eval_value_laws.specs.Contracts.{Ground, LayerFits}

@@ -22,20 +22,20 @@ use Rattle.theory_back.specs.Passes.{looks-within, dropped}
 use Rattle.theory_back.specs.Uses.{layers-of}
 use Rattle.eval_keys.specs.Numbers.{numberOf}
 use Rattle.eval_stack.specs.Model.{entries}
-use Rattle.eval_tables.specs.Keys.{Means, number-means}
-use Rattle.eval_tables.specs.Finished.{Memory}
-use Rattle.eval_tables.specs.Tables.{Tables, match-length}
+use Rattle.eval_memory.specs.Keys.{Means, number-means}
+use Rattle.eval_memory.specs.Finished.{Memory}
+use Rattle.eval_memory.specs.Tables.{Tables, match-length}
 use Rattle.eval_layers.specs.Contracts.{walked}
 use Rattle.eval_layers.specs.declared.Part.{Part}
-use Rattle.eval_routes.specs.Elements.{KeysOf}
-use Rattle.eval_of_root.specs.Root.{of-root-shows}
-use Rattle.eval_paths.specs.Model.{Layered, parted, onwardC, walkPathC}
-use Rattle.eval_paths.specs.WalkPath.{Roomy, onward-shows}
-use Rattle.eval_back.specs.Uses.{looks-own}
-use Rattle.eval_references.specs.Documents.{Standing, PathNumbers, UnresolvedAt, path-from, path-number, asked-at, path-tells}
-use Rattle.eval_references.specs.Contracts.{fromWalk, LayersC, looking-back, looking-forward, LayersForIs}
-use Rattle.eval_references.specs.Shows.{before-shows}
-use Rattle.eval_references.specs.LayersFor.{layersOf, layers-forward, layers-back}
+use Rattle.eval_substitutions.specs.Keys.Elements.{KeysOf}
+use Rattle.eval_substitutions.specs.RootFields.Root.{of-root-shows}
+use Rattle.eval_substitutions.specs.Paths.Model.{Layered, parted, onwardC, walkPathC}
+use Rattle.eval_substitutions.specs.Paths.WalkPath.{Roomy, onward-shows}
+use Rattle.eval_look_back.specs.Uses.{looks-own}
+use Rattle.eval_substitutions.specs.Documents.{Standing, PathNumbers, UnresolvedAt, path-from, path-number, asked-at, path-tells}
+use Rattle.eval_substitutions.specs.Contracts.{fromWalk, LayersC, looking-back, looking-forward, LayersForIs}
+use Rattle.eval_substitutions.specs.Shows.{before-shows}
+use Rattle.eval_substitutions.specs.LayersFor.{layersOf, layers-forward, layers-back}
 
 -- the objects on top are lighter by one for each layer that is below them
 pub tops-shorter : (known : ℕ → Option Answer) (ls : List Layer) → weigh known (objectsOn ls) + length ls ≤ weigh known ls + length (objectsOn ls)

@@ -7,8 +7,8 @@ use native.Mathlib.Omega.{arith}
 use lib.Dec.{eqb}
 use lib.ListN.{length}
 use Rattle.answers.specs.Theory.Sound.{clash}
-use Rattle.eval_members.specs.Model.{viewAt}
-use Rattle.eval_members.specs.declared.View.{View}
+use Rattle.eval_nodes.specs.Model.{viewAt}
+use Rattle.eval_nodes.specs.declared.View.{View}
 use Rattle.eval_stack.specs.Model.{entries, seg, pushC}
 use Rattle.eval_layers.specs.Model.{ofEndC, gatherBy, gatherC}
 use Rattle.eval_layers.specs.Contracts.{GatherIs}

@@ -1,23 +1,26 @@
 // What one piece of an unresolved value comes to before it is written: a text of the environment, or what its layers come to.
 // Computes: Unresolved (substitutionValue up to its value), Layers (nodeValue likewise)
+
+pub mod cursor;
+
 use codes::limits;
 use doc_items::PIECE;
 use doc_items::REQUIRED;
 use doc_items::WIDTH;
 use doc_items::number_at;
+use eval_environment::Asked;
+use eval_environment::or_environment;
 use eval_layers::Part;
 use eval_layers::Taken;
 use eval_layers::gather;
-use eval_names::Asked;
-use eval_names::or_environment;
-use eval_references::path_layers;
 use eval_stack::push;
+use eval_substitutions::path_layers;
 use text_chars::DocAt;
 use text_chars::EnvAt;
 use text_chars::EnvLen;
 ghost use Prim.Native.Nat.{_<_, _≤_};
 ghost use Rattle.doc_items.specs.Room.{capacity};
-ghost use Rattle.eval_members.specs.Contracts.{Few};
+ghost use Rattle.eval_nodes.specs.Contracts.{Few};
 ghost use Rattle.eval_stack.specs.Model.{entries, Work};
 ghost use Rattle.eval_pieces.specs.Contracts.{Lent, EnvironmentAsked, EnvironmentIs, LiteralIs, ReferenceIs, PieceIs};
 

@@ -13,17 +13,17 @@ use Rattle.theory.specs.Numbering.{numbers-below}
 use Rattle.theory_order.specs.Fitting.{Plain}
 use Rattle.theory_order.specs.Contracts.{Task, treeOf}
 use Rattle.theory_order.specs.Resolving.{kept-start}
-use Rattle.eval_tables.specs.Finished.{Memory}
-use Rattle.eval_tables.specs.Tables.{WrittenAt, Shows}
+use Rattle.eval_memory.specs.Finished.{Memory}
+use Rattle.eval_memory.specs.Tables.{WrittenAt, Shows}
 use Rattle.eval_state.specs.Documents.{root-written}
-use Rattle.eval_weights.specs.Weights.{mostWeight}
-use Rattle.eval_later.specs.Shows.{usedOf, written-used}
-use Rattle.eval_order.specs.declared.Progress.{Progress}
-use Rattle.eval_order.specs.declared.Step.{Step}
-use Rattle.eval_need_laws.specs.declared.Need.{Need}
-use Rattle.eval_need_laws.specs.Ground.{Lasting, LayerFits}
+use Rattle.eval_frames.specs.Weights.{mostWeight}
+use Rattle.eval_frames.specs.Shows.{usedOf, written-used}
+use Rattle.eval_trail.specs.declared.Progress.{Progress}
+use Rattle.eval_trail.specs.declared.Step.{Step}
+use Rattle.eval_settle_laws.specs.declared.Need.{Need}
+use Rattle.eval_settle_laws.specs.Ground.{Lasting, LayerFits}
 use Rattle.eval_settle_laws.specs.Given.{Given, groundOf, soundOf}
-use Rattle.eval_need_laws.specs.Needs.{needC, begins, LayerAsked, LayerIs}
+use Rattle.eval_settle_laws.specs.Needs.{needC, begins, LayerAsked, LayerIs}
 use Rattle.eval_settle_laws.specs.Contracts.{Settles, OneAsked, OneIs, RootAsked, RootSettles, RootIs}
 
 plain : (r : Root) → Plain (written (rootNode r))

@@ -1,17 +1,17 @@
 // The order: what the root's value needs is worked out, one unresolved value after another, as its layers are walked. Nothing is written but
 // the trail; when this is done, no answer that the root's value takes is missing. The list of questions is lent through all levels.
 // Computes: theory_order's settling by levels
-use eval_need_laws::Need;
-use eval_need_laws::Span;
 use eval_needs::need_at;
 use eval_needs::need_of_layer;
-use eval_order::Progress;
-use eval_order::Step;
+use eval_settle_laws::Need;
+use eval_settle_laws::Span;
+use eval_trail::Progress;
+use eval_trail::Step;
 use eval_values::LEVELS;
 use eval_work::work;
 ghost use Prim.Native.Nat.{_≤_};
 ghost use lib.ListN.{length};
-ghost use Rattle.eval_turns.specs.Contracts.{listRoom};
+ghost use Rattle.eval_trail.specs.Turns.Contracts.{listRoom};
 ghost use Rattle.eval_settle_laws.specs.Contracts.{OneAsked, OneIs, AllAsked, AllIs, RootAsked, RootIs};
 
 // The root is the first item.

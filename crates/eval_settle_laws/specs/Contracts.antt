@@ -13,18 +13,18 @@ use Rattle.rules.specs.Values.{Answer}
 use Rattle.theory_order.specs.Walks.{Ended}
 use Rattle.theory_order.specs.Contracts.{Task, settleRootC}
 use Rattle.eval_writer.specs.Contracts.{Room}
-use Rattle.eval_records.specs.Contracts.{mostBytes}
+use Rattle.eval_writer.specs.Copies.Contracts.{mostBytes}
 use Rattle.eval_stack.specs.Model.{Work}
 use Rattle.eval_value_laws.specs.Contracts.{Left}
-use Rattle.eval_order.specs.Contracts.{Holding}
-use Rattle.eval_order.specs.declared.Progress.{Progress}
-use Rattle.eval_order.specs.declared.Step.{Step}
-use Rattle.eval_questions.specs.Work.{Tasked, RefusedAs}
-use Rattle.eval_need_laws.specs.declared.Need.{Need}
-use Rattle.eval_need_laws.specs.declared.Span.{Span}
-use Rattle.eval_need_laws.specs.Ground.{settlingRoom}
+use Rattle.eval_trail.specs.Contracts.{Holding}
+use Rattle.eval_trail.specs.declared.Progress.{Progress}
+use Rattle.eval_trail.specs.declared.Step.{Step}
+use Rattle.eval_question_laws.specs.Work.{Tasked, RefusedAs}
+use Rattle.eval_settle_laws.specs.declared.Need.{Need}
+use Rattle.eval_settle_laws.specs.declared.Span.{Span}
+use Rattle.eval_settle_laws.specs.Ground.{settlingRoom}
 use Rattle.eval_settle_laws.specs.Given.{Given, groundOf, Come}
-use Rattle.eval_need_laws.specs.Needs.{Rest, settleRestC, needC, begins, RestFrom, NeedShows}
+use Rattle.eval_settle_laws.specs.Needs.{Rest, settleRestC, needC, begins, RestFrom, NeedShows}
 
 -- ---- what settling comes to
 

@@ -11,13 +11,13 @@ use Rattle.rules.specs.Sizes.{maxEnvironment}
 use Rattle.rules.specs.Values.{Answer}
 use Rattle.theory_order.specs.Contracts.{Task, KeptOf}
 use Rattle.eval_writer.specs.Contracts.{Room}
-use Rattle.eval_records.specs.Contracts.{mostBytes}
+use Rattle.eval_writer.specs.Copies.Contracts.{mostBytes}
 use Rattle.eval_stack.specs.Model.{Work}
 use Rattle.eval_state.specs.Later.{Later, later-same, later-then}
-use Rattle.eval_order.specs.Contracts.{Holding}
-use Rattle.eval_order.specs.declared.Progress.{Progress}
-use Rattle.eval_questions.specs.Work.{Tasked, Lent}
-use Rattle.eval_need_laws.specs.Ground.{settlingRoom, Ground, Sound}
+use Rattle.eval_trail.specs.Contracts.{Holding}
+use Rattle.eval_trail.specs.declared.Progress.{Progress}
+use Rattle.eval_question_laws.specs.Work.{Tasked, Lent}
+use Rattle.eval_settle_laws.specs.Ground.{settlingRoom, Ground, Sound}
 
 -- ---- a task, with the trail and the count so far, in the job's memory and the caller's buffers
 

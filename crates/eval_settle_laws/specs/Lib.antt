@@ -1,3 +1,10 @@
 pub mod Given
 pub mod Contracts
 pub mod Settling
+pub mod Ground
+pub mod Needs
+pub mod Rooms
+pub mod Layers
+pub mod Elements
+pub mod Places
+pub mod Keys

@@ -15,28 +15,28 @@ use Rattle.theory_order.specs.Walks.{Ended}
 use Rattle.theory_order.specs.Contracts.{settleKeysC, settleElementsC}
 use Rattle.theory_order.specs.SettleLaws as order
 use Rattle.text_chars.specs.declared.DocAt.{DocAt}
-use Rattle.eval_members.specs.Model.{memberAt}
-use Rattle.eval_members.specs.declared.Member.{Member}
-use Rattle.eval_taken.specs.Levels.{level-stays, keys-none, keys-stay}
-use Rattle.eval_later.specs.Shows.{usedOf, used-tables}
-use Rattle.eval_later.specs.Levels.{level-later, keys-later as keys-moved}
+use Rattle.eval_nodes.specs.Model.{memberAt}
+use Rattle.eval_nodes.specs.declared.Member.{Member}
+use Rattle.eval_groups.specs.Select.Levels.{level-stays, keys-none, keys-stay}
+use Rattle.eval_frames.specs.Shows.{usedOf, used-tables}
+use Rattle.eval_frames.specs.Levels.{level-later, keys-later as keys-moved}
 use Rattle.eval_state.specs.Later.{later-then}
 use Rattle.eval_value_laws.specs.Contracts.{Left}
 use Rattle.eval_value_laws.specs.Elements.{element-met}
 use Rattle.eval_value_laws.specs.Frames.{left-all, left-then, left-lower}
 use Rattle.eval_value_laws.specs.Nodes.{not-zero}
-use Rattle.eval_order.specs.declared.Progress.{Progress}
-use Rattle.eval_order.specs.declared.Step.{Step}
-use Rattle.eval_questions.specs.Work.{RefusedAs, WorkAsked, Works, WorkIs}
-use Rattle.eval_need_laws.specs.declared.Kind.{Kind}
-use Rattle.eval_need_laws.specs.declared.Span.{Span}
-use Rattle.eval_need_laws.specs.declared.Need.{Need}
-use Rattle.eval_need_laws.specs.declared.Met.{Met}
-use Rattle.eval_need_laws.specs.Ground.{Ground, memoryOf}
-use Rattle.eval_need_laws.specs.Rooms.{lasting-later}
-use Rattle.eval_need_laws.specs.Places.{rest-low}
+use Rattle.eval_trail.specs.declared.Progress.{Progress}
+use Rattle.eval_trail.specs.declared.Step.{Step}
+use Rattle.eval_question_laws.specs.Work.{RefusedAs, WorkAsked, Works, WorkIs}
+use Rattle.eval_settle_laws.specs.declared.Kind.{Kind}
+use Rattle.eval_settle_laws.specs.declared.Span.{Span}
+use Rattle.eval_settle_laws.specs.declared.Need.{Need}
+use Rattle.eval_settle_laws.specs.declared.Met.{Met}
+use Rattle.eval_settle_laws.specs.Ground.{Ground, memoryOf}
+use Rattle.eval_settle_laws.specs.Rooms.{lasting-later}
+use Rattle.eval_settle_laws.specs.Places.{rest-low}
 use Rattle.eval_settle_laws.specs.Given.{Given, groundOf, soundOf, Come, come-here, come-on, given-lent, given-on}
-use Rattle.eval_need_laws.specs.Needs.{Rest, elements, keys, settleRestC, insideC, needC, begins, RestFrom, NeedShows, Meets, PlaceAsked, PlaceIs}
+use Rattle.eval_settle_laws.specs.Needs.{Rest, elements, keys, settleRestC, insideC, needC, begins, RestFrom, NeedShows, Meets, PlaceAsked, PlaceIs}
 use Rattle.eval_settle_laws.specs.Contracts.{Settled, Settles, OneAsked, OneIs, AllAsked, AllIs}
 
 -- ---- what one place needs

@@ -20,7 +20,7 @@ use Rattle.sheet_kept.specs.Kept.{Held, named, kept}
 use Rattle.sheet_kept.specs.Sizes.{kept-records}
 use Rattle.eval_writer.specs.Contracts.{InRoom}
 use Rattle.eval_writer.specs.declared.Out.{Out}
-use Rattle.eval_finished.specs.Contracts.{KeepAsked, KeepIs}
+use Rattle.eval_store.specs.Values.Contracts.{KeepAsked, KeepIs}
 use Rattle.eval_state.specs.Memories.{pairRecordsAt, pairTextsAt, secondAt, answersOf, pairOf}
 use Rattle.eval_state.specs.Documents.{key-number}
 use Rattle.eval_state.specs.Values.{KeptAt, Apart, kept-still, kept-new, each-key, set-below, set-above}

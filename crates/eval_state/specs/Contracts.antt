@@ -16,8 +16,8 @@ use Rattle.doc_items.specs.Room.{answersAt, bytesRoom}
 use Rattle.sheet_kept.specs.Kept.{Held, named}
 use Rattle.eval_writer.specs.Contracts.{InRoom}
 use Rattle.eval_writer.specs.declared.Out.{Out}
-use Rattle.eval_finished.specs.Contracts.{Full}
-use Rattle.eval_tables.specs.Keys.{KeyNumber, EachKey}
+use Rattle.eval_store.specs.Values.Contracts.{Full}
+use Rattle.eval_memory.specs.Keys.{KeyNumber, EachKey}
 use Rattle.eval_state.specs.Memories.{jobTable, jobBytes, secondAt, pairOf}
 use Rattle.eval_state.specs.Values.{KeptAt}
 use Rattle.eval_state.specs.State.{State}

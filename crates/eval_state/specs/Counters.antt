@@ -14,7 +14,7 @@ use Rattle.sheet_kept.specs.Kept.{Held, named}
 use Rattle.sheet_kept.specs.Sizes.{kept-records}
 use Rattle.eval_writer.specs.Contracts.{InRoom}
 use Rattle.eval_writer.specs.declared.Out.{Out}
-use Rattle.eval_finished.specs.Contracts.{Full}
+use Rattle.eval_store.specs.Values.Contracts.{Full}
 
 module _ {room : List ℕ} {o : Out} {key : ℕ → Text} {v : Held} (f : Full room o) (i : InRoom key v room o) where
   pub records-are : recordSize (named key v) ≡ o .rec .0

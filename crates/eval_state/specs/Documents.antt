@@ -32,13 +32,13 @@ use Rattle.eval_keys.specs.Adding.{none-same}
 use Rattle.eval_keys.specs.Stores.{text-kept}
 use Rattle.eval_keys.specs.Documents.{text-slice}
 use Rattle.eval_keys.specs.Uses.{numbered-stays, number-small}
-use Rattle.eval_root.specs.Links.{follows-same, every-map}
-use Rattle.eval_root.specs.Documents.{Keyed, RootLinked, placesOf}
+use Rattle.eval_root_index.specs.Links.{follows-same, every-map}
+use Rattle.eval_root_index.specs.Documents.{Keyed, RootLinked, placesOf}
 use Rattle.eval_writer.specs.Model.{wordAt}
 use Rattle.eval_writer.specs.Keys.{KeyIn}
-use Rattle.eval_tables.specs.Keys.{KeyNumber}
-use Rattle.eval_tables.specs.Finished.{Memory, Stored}
-use Rattle.eval_tables.specs.Tables.{WrittenAt, as-member}
+use Rattle.eval_memory.specs.Keys.{KeyNumber}
+use Rattle.eval_memory.specs.Finished.{Memory, Stored}
+use Rattle.eval_memory.specs.Tables.{WrittenAt, as-member}
 use Rattle.eval_state.specs.Agreeing.{SameItems, same-items, same-node}
 use Rattle.eval_state.specs.Members.{places-same, places-low}
 use Rattle.eval_state.specs.Memories.{begunAt, jobTable, jobBytes, NumberIn, memoryAt, answersOf}

@@ -20,7 +20,7 @@ use Rattle.theory.specs.Layout.{length-texts, length-trailTexts}
 use Rattle.theory.specs.TrailAnswers.{answerAt, answer-new, answer-text-new, answer-stays, answer-text-stays}
 use Rattle.sheet_kept.specs.Sets.{drop-sets, sets-behind, set-stands}
 use Rattle.doc_items.specs.Room.{textRoom, answersAt, sheetAt, trailAt}
-use Rattle.eval_tables.specs.Finished.{Memory}
+use Rattle.eval_memory.specs.Finished.{Memory}
 use Rattle.eval_state.specs.Memories.{answersOf}
 use Rattle.eval_state.specs.Documents.{SameDocument, document-stays, key-number}
 use Rattle.eval_state.specs.Values.{KeptAt, set-below}

@@ -18,8 +18,8 @@ use Rattle.theory.specs.TrailAnswers.{answer-in}
 use Rattle.sheet_kept.specs.Kept.{named, kept}
 use Rattle.sheet_kept.specs.Sizes.{kept-records}
 use Rattle.doc_items.specs.Room.{answersAt, sheetAt, trailAt, bytesRoom}
-use Rattle.eval_tables.specs.Keys.{KeyNumber}
-use Rattle.eval_tables.specs.Finished.{SettledAt}
+use Rattle.eval_memory.specs.Keys.{KeyNumber}
+use Rattle.eval_memory.specs.Finished.{SettledAt}
 use Rattle.eval_state.specs.Memories.{begunAt, memoryUsed, answersOf}
 use Rattle.eval_state.specs.Documents.{SameDocument, document-stays, key-number}
 use Rattle.eval_state.specs.Values.{KeptAt, each-key}

@@ -8,3 +8,4 @@ pub mod Keeping
 pub mod Later
 pub mod Counters
 pub mod Contracts
+pub mod Index

@@ -9,8 +9,8 @@ use Rattle.rules.specs.Tree.{Node, simple, array, object, unresolved, Elements,
 use Rattle.doc_items.specs.Codes.{referenceCode}
 use Rattle.doc_items.specs.Holds.{Seams, Sized, Shown, ElementsAt, FieldsAt, PiecesAt}
 use Rattle.eval_keys.specs.Texts.{by-less, by-equal}
-use Rattle.eval_root.specs.Links.{Every}
-use Rattle.eval_root.specs.Documents.{member-kind, placesOf}
+use Rattle.eval_root_index.specs.Links.{Every}
+use Rattle.eval_root_index.specs.Documents.{member-kind, placesOf}
 
 module _ (g h : ℕ → ℕ) (lo hi : ℕ) (N : ℕ → ℕ → Type 0) where
   abbrev Ends : ℕ → ℕ → Type 0

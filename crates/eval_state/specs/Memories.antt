@@ -13,7 +13,7 @@ use Rattle.rules.specs.Bytes.{Text}
 use Rattle.rules.specs.Sizes.{maxRecords, maxRoom, maxUnresolved}
 use Rattle.doc_items.specs.Room.{textRoom, sheetAt, trailAt, bytesRoom}
 use Rattle.eval_keys.specs.Columns.{columnsEnd}
-use Rattle.eval_tables.specs.Finished.{Memory}
+use Rattle.eval_memory.specs.Finished.{Memory}
 
 abbrev pub begunAt : ℕ
 begunAt = columnsEnd

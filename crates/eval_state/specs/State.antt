@@ -16,9 +16,9 @@ use Rattle.rules.specs.Sheet.{texts, trailSize, trailTextSize, trailTexts}
 use Rattle.rules.specs.Documents.{Setting}
 use Rattle.theory.specs.TrailAnswers.{answerAt, answerTextAt, answer-in}
 use Rattle.doc_items.specs.Room.{answersAt, sheetAt, trailAt}
-use Rattle.eval_tables.specs.Keys.{KeyNumber}
-use Rattle.eval_tables.specs.Finished.{Memory}
-use Rattle.eval_tables.specs.Tables.{AnswerAt, Tables}
+use Rattle.eval_memory.specs.Keys.{KeyNumber}
+use Rattle.eval_memory.specs.Finished.{Memory}
+use Rattle.eval_memory.specs.Tables.{AnswerAt, Tables}
 use Rattle.eval_state.specs.Memories.{answersOf, pairOf}
 use Rattle.eval_state.specs.Documents.{DocumentIn, document-stored}
 use Rattle.eval_state.specs.Values.{KeptAt, Apart, kept-still}

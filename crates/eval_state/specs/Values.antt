@@ -15,8 +15,8 @@ use Rattle.theory.specs.Layout.{length-texts}
 use Rattle.sheet_kept.specs.Kept.{Held, simple, listed, keyed, Helds, no-helds, also, HeldFields, no-fields, field, named, kept}
 use Rattle.sheet_kept.specs.Sizes.{kept-records}
 use Rattle.sheet_kept.specs.Standing.{Stands, Clear, stands-still}
-use Rattle.eval_tables.specs.Keys.{KeyNumber, EachKey, EachKeyOf, EachField}
-use Rattle.eval_tables.specs.Finished.{Memory, SettledAt}
+use Rattle.eval_memory.specs.Keys.{KeyNumber, EachKey, EachKeyOf, EachField}
+use Rattle.eval_memory.specs.Finished.{Memory, SettledAt}
 use Rattle.eval_state.specs.Memories.{memoryAt}
 
 -- the value v, kept with its records at an offset and its texts from another on

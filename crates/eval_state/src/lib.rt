@@ -1,15 +1,20 @@
 // What stands in a job's memory between two steps: the document, and the answers so far, each where its public record is in the trail.
 // An answer is kept when its entry is laid; two finished objects that merge are kept beside each other. specs/Memories has the picture of
 // the parts that doc_items does not name.
-// Computes: Sheet
+// The item of an unresolved value, by its number.
+// Computes: Sheet, Documents (unresolved, by the index that read_numbering made)
 use codes::limits;
-use eval_finished::keep_value;
+use doc_items::number_at;
+use eval_store::values::keep_value;
 use eval_writer::Out;
 use eval_writer::Source;
 use sheet_sizes::ENTRY;
 use text_chars::RecAt;
 use text_chars::TextAt;
 ghost use Rattle.eval_state.specs.Contracts.{HalfIs, AnswerAsked, AnswerIs, UndefinedAsked, UndefinedIs, PairAsked, PairIs};
+ghost use Prim.Native.Nat.{_<_};
+ghost use Rattle.rules.specs.Sizes.{maxUnresolved};
+ghost use Rattle.eval_state.specs.Index.{ItemIs};
 
 /// Where a job's table has the marks of the unresolved values that were begun, behind the keys' columns.
 pub const BEGUN: usize = eval_keys::COLUMNS_END;
@@ -82,4 +87,22 @@ pub fn keep_pair(bytes: &mut [u8], room: &[u8], o: Out, second: bool)
         text: TextAt(PAIR_TEXTS),
     };
     keep_value(bytes, room, pair, RecAt(half), TextAt(half), o);
+}
+
+// An item that is no root's. The index of a document that was read has no other number than an item's; of any table the answer is one.
+const FIRST: usize = 1;
+
+/// The item of question b.
+pub fn item_of(table: &[u16], b: usize) -> usize
+    requires { ⌜ b < maxUnresolved ⌝ }
+    ensures { λ r. ⌜ ItemIs (now (table .entry)) b r ⌝ }
+{
+    let i = number_at(table, doc_items::INDEX + b);
+    if i < FIRST {
+        return FIRST;
+    }
+    if i < doc_items::CAPACITY {
+        return i;
+    }
+    FIRST
 }

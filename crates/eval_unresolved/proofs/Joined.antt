@@ -10,19 +10,19 @@ use Rattle.rules.specs.Unresolved.{Unresolved, blank, joinAnswer}
 use Rattle.rules.specs.Documents.{Setting, ruleOf}
 use Rattle.theory.specs.SettledAnswers.{openIn}
 use Rattle.text_chars.specs.declared.DocAt.{DocAt}
-use Rattle.eval_joins.specs.Answers.{AnswerIs, answer-is}
-use Rattle.eval_joins.specs.declared.Join.{Join}
-use Rattle.eval_sizes.specs.Answers.{AnsweredIs}
-use Rattle.eval_sizes.specs.declared.Answered.{Answered}
-use Rattle.eval_join_steps.specs.Contracts.{Good, RefusedWith}
-use Rattle.eval_join_steps.specs.declared.JoinStep.{JoinStep}
-use Rattle.eval_questions.specs.Contracts.{Questioned}
-use Rattle.eval_sizes.specs.Outcomes.{OutcomeOfIs, outcome-within}
+use Rattle.eval_concat.specs.Answers.{AnswerIs, answer-is}
+use Rattle.eval_concat.specs.declared.Join.{Join}
+use Rattle.eval_results.specs.Sizes.Answers.{AnsweredIs}
+use Rattle.eval_results.specs.declared.sizes.Answered.{Answered}
+use Rattle.eval_concat.specs.Steps.Contracts.{Good, RefusedWith}
+use Rattle.eval_concat.specs.declared.steps.JoinStep.{JoinStep}
+use Rattle.eval_question_laws.specs.Contracts.{Questioned}
+use Rattle.eval_results.specs.Sizes.Outcomes.{OutcomeOfIs, outcome-within}
 use Rattle.eval_unresolved.specs.Outcomes.{outcome-is}
 use Rattle.eval_unresolved.specs.Parts.{OutcomeFor}
-use Rattle.eval_pieces_joined.specs.Contracts.{severalBy, AllJoined, PiecesJoinedIs}
-use Rattle.eval_questions.specs.Rules.{OnePiece, several-rule, rule-is, rule-distinct}
-use Rattle.eval_sizes.specs.declared.Outcome.{Outcome}
+use Rattle.eval_unresolved.specs.Pieces.Contracts.{severalBy, AllJoined, PiecesJoinedIs}
+use Rattle.eval_question_laws.specs.Rules.{OnePiece, several-rule, rule-is, rule-distinct}
+use Rattle.eval_results.specs.declared.sizes.Outcome.{Outcome}
 
 -- ---- the outcome
 

@@ -6,23 +6,23 @@ use mathlib.Core.List.{List}
 use native.Mathlib.Omega.{arith}
 use lib.ListN.{length}
 use Rattle.text_chars.specs.declared.DocAt.{DocAt}
-use Rattle.eval_extents.specs.declared.Extent.{Extent}
-use Rattle.eval_taken.specs.Levels.{same-below}
-use Rattle.eval_sizes.specs.Contracts.{sizedC}
-use Rattle.eval_sizes.specs.Outcomes.{OutcomeOfIs, outcome-within}
-use Rattle.eval_sizes.specs.declared.Answered.{Answered}
-use Rattle.eval_sizes.specs.declared.Outcome.{Outcome}
+use Rattle.eval_results.specs.declared.extents.Extent.{Extent}
+use Rattle.eval_groups.specs.Select.Levels.{same-below}
+use Rattle.eval_results.specs.Sizes.Contracts.{sizedC}
+use Rattle.eval_results.specs.Sizes.Outcomes.{OutcomeOfIs, outcome-within}
+use Rattle.eval_results.specs.declared.sizes.Answered.{Answered}
+use Rattle.eval_results.specs.declared.sizes.Outcome.{Outcome}
 use Rattle.eval_value_laws.specs.Contracts.{Left}
 use Rattle.eval_value_laws.specs.Frames.{left-then}
 use Rattle.eval_pieces.specs.Contracts.{Lent, PieceIs}
 use Rattle.eval_pieces.specs.declared.Piece.{Piece}
-use Rattle.eval_piece_items.specs.Contracts.{SoleIs}
-use Rattle.eval_piece_values.specs.Contracts.{PieceAsked, PieceValueIs}
-use Rattle.eval_piece_values.specs.declared.PieceValue.{PieceValue}
-use Rattle.eval_questions.specs.Contracts.{Asked}
+use Rattle.eval_pieces.specs.Cursor.Contracts.{SoleIs}
+use Rattle.eval_unresolved.specs.Single.Contracts.{PieceAsked, PieceValueIs}
+use Rattle.eval_unresolved.specs.declared.single.PieceValue.{PieceValue}
+use Rattle.eval_question_laws.specs.Contracts.{Asked}
 use Rattle.eval_unresolved.specs.Contracts.{OutcomeIs}
 use Rattle.eval_unresolved.specs.Parts.{OutcomeFor, SoleAsked}
-use Rattle.eval_questions.specs.Rules.{OnePiece}
+use Rattle.eval_question_laws.specs.Rules.{OnePiece}
 use Rattle.eval_unresolved.specs.Sole.{sole-yes, sole-no, sole-done, sole-undefined, sole-needs, sole-missing}
 
 -- ---- one piece

@@ -14,14 +14,14 @@ use Rattle.rules.specs.Documents.{Setting, ruleOf}
 use Rattle.doc_items.specs.Room.{bytesRoom}
 use Rattle.sheet_kept.specs.Kept.{Held, named}
 use Rattle.eval_writer.specs.Contracts.{Room}
-use Rattle.eval_extents.specs.declared.Extent.{Extent}
-use Rattle.eval_sizes.specs.Outcomes.{OutcomeWithin}
-use Rattle.eval_sizes.specs.declared.Outcome.{Outcome}
+use Rattle.eval_results.specs.declared.extents.Extent.{Extent}
+use Rattle.eval_results.specs.Sizes.Outcomes.{OutcomeWithin}
+use Rattle.eval_results.specs.declared.sizes.Outcome.{Outcome}
 use Rattle.eval_state.specs.State.{State}
 use Rattle.eval_state.specs.Contracts.{Finished}
 use Rattle.eval_value_laws.specs.Contracts.{Left}
-use Rattle.eval_join_steps.specs.Contracts.{RefusedWith}
-pub use Rattle.eval_questions.specs.Contracts.{Asked, PiecesFit, Fits, Questioned}
+use Rattle.eval_concat.specs.Steps.Contracts.{RefusedWith}
+pub use Rattle.eval_question_laws.specs.Contracts.{Asked, PiecesFit, Fits, Questioned}
 
 -- ---- what is promised
 

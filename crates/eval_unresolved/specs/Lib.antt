@@ -2,3 +2,5 @@ pub mod Contracts
 pub mod Outcomes
 pub mod Parts
 pub mod Sole
+pub mod Pieces
+pub mod Single

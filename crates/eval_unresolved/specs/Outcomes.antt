@@ -11,13 +11,13 @@ use Rattle.rules.specs.Refusals.{nowhere}
 use Rattle.rules.specs.Values.{Value, Answer, withinSize}
 use Rattle.rules.specs.NamedValues.{Distinct}
 use Rattle.rules.specs.Settled.{Given}
-use Rattle.eval_extents.specs.declared.Extent.{Extent}
-use Rattle.eval_sizes.specs.Contracts.{withinC}
-use Rattle.eval_sizes.specs.Answers.{ValueIn, AnswerCase, AnsweredIs, within-nesting, value-within, value-stands}
-use Rattle.eval_sizes.specs.Outcomes.{outcomeC, OutcomeOfIs}
-use Rattle.eval_sizes.specs.declared.Answered.{Answered}
-use Rattle.eval_sizes.specs.declared.Outcome.{Outcome}
-use Rattle.eval_join_steps.specs.Contracts.{Good}
+use Rattle.eval_results.specs.declared.extents.Extent.{Extent}
+use Rattle.eval_results.specs.Sizes.Contracts.{withinC}
+use Rattle.eval_results.specs.Sizes.Answers.{ValueIn, AnswerCase, AnsweredIs, within-nesting, value-within, value-stands}
+use Rattle.eval_results.specs.Sizes.Outcomes.{outcomeC, OutcomeOfIs}
+use Rattle.eval_results.specs.declared.sizes.Answered.{Answered}
+use Rattle.eval_results.specs.declared.sizes.Outcome.{Outcome}
+use Rattle.eval_concat.specs.Steps.Contracts.{Good}
 use Rattle.eval_unresolved.specs.Contracts.{ValueDone, OutcomeCase}
 
 module _ {key : ℕ → Text} (items : ℕ) {T room : List ℕ} where

@@ -13,9 +13,9 @@ use Rattle.doc_items.specs.Room.{capacity, bytesRoom}
 use Rattle.eval_writer.specs.Contracts.{Room}
 use Rattle.eval_state.specs.State.{State}
 use Rattle.eval_value_laws.specs.Contracts.{Left}
-use Rattle.eval_questions.specs.Contracts.{Asked, Questioned}
-use Rattle.eval_sizes.specs.Outcomes.{OutcomeWithin}
-use Rattle.eval_sizes.specs.declared.Outcome.{Outcome}
+use Rattle.eval_question_laws.specs.Contracts.{Asked, Questioned}
+use Rattle.eval_results.specs.Sizes.Outcomes.{OutcomeWithin}
+use Rattle.eval_results.specs.declared.sizes.Outcome.{Outcome}
 use Rattle.eval_unresolved.specs.Contracts.{OutcomeCase}
 
 -- ---- the outcome, where the pieces are such

@@ -19,25 +19,25 @@ use Rattle.doc_items.specs.Codes.{referenceCode}
 use Rattle.sheet_kept.specs.Kept.{named}
 use Rattle.eval_writer.specs.Contracts.{Room}
 use Rattle.eval_writer.specs.Composition.{start}
-use Rattle.eval_extents.specs.declared.Extent.{Extent}
-use Rattle.eval_tables.specs.Keys.{KeyNumber}
-use Rattle.eval_worked.specs.Comes.{ValueThere}
-use Rattle.eval_sizes.specs.Contracts.{sizedC}
-use Rattle.eval_sizes.specs.Answers.{AnsweredIs, sized-is}
-use Rattle.eval_sizes.specs.Outcomes.{OutcomeOfIs}
-use Rattle.eval_sizes.specs.declared.Outcome.{Outcome}
-use Rattle.eval_join_steps.specs.Contracts.{Good, RefusedWith}
+use Rattle.eval_results.specs.declared.extents.Extent.{Extent}
+use Rattle.eval_memory.specs.Keys.{KeyNumber}
+use Rattle.eval_results.specs.Values.Comes.{ValueThere}
+use Rattle.eval_results.specs.Sizes.Contracts.{sizedC}
+use Rattle.eval_results.specs.Sizes.Answers.{AnsweredIs, sized-is}
+use Rattle.eval_results.specs.Sizes.Outcomes.{OutcomeOfIs}
+use Rattle.eval_results.specs.declared.sizes.Outcome.{Outcome}
+use Rattle.eval_concat.specs.Steps.Contracts.{Good, RefusedWith}
 use Rattle.eval_pieces.specs.Contracts.{PieceIs}
 use Rattle.eval_pieces.specs.Literals.{literal-kind}
 use Rattle.eval_pieces.specs.declared.Piece.{Piece}
-use Rattle.eval_piece_items.specs.Contracts.{Sole}
-use Rattle.eval_piece_values.specs.Contracts.{PieceValueIs, ValueCase}
-use Rattle.eval_piece_values.specs.declared.PieceValue.{PieceValue}
-use Rattle.eval_questions.specs.Contracts.{Questioned}
+use Rattle.eval_pieces.specs.Cursor.Contracts.{Sole}
+use Rattle.eval_unresolved.specs.Single.Contracts.{PieceValueIs, ValueCase}
+use Rattle.eval_unresolved.specs.declared.single.PieceValue.{PieceValue}
+use Rattle.eval_question_laws.specs.Contracts.{Questioned}
 use Rattle.eval_unresolved.specs.Contracts.{OutcomeCase}
 use Rattle.eval_unresolved.specs.Outcomes.{outcome-is}
-use Rattle.eval_questions.specs.Rules.{OnePiece, one-rule, rule-is, rule-distinct}
-use Rattle.eval_questions.specs.Standing.{PiecesLeft, pieces-begin, pieces-end, node-given, node-inside, reference-rest, reference-inside, reference-given}
+use Rattle.eval_question_laws.specs.Rules.{OnePiece, one-rule, rule-is, rule-distinct}
+use Rattle.eval_question_laws.specs.Standing.{PiecesLeft, pieces-begin, pieces-end, node-given, node-inside, reference-rest, reference-inside, reference-given}
 
 module _ {x : Setting} {key : ℕ → Text} {items : ℕ} {T B E : List ℕ} {S : Trail Answer} {base item b : ℕ} {u : Unresolved}
     (Q : Questioned x key items T B E S base item b u) where

@@ -1,18 +1,23 @@
 // What an unresolved value comes to against the answers so far: "One piece keeps its type"; several are joined, "pieces left to right".
 // Computes: Unresolved (answerOf)
+
+pub mod join;
+pub mod pieces;
+pub mod single;
+
+use crate::pieces::join_pieces;
+use crate::single::PieceValue;
+use crate::single::value_of;
 use codes::refusals;
-use eval_join_steps::JoinStep;
-use eval_joins::join_answer;
-use eval_piece_items::is_sole;
-use eval_piece_values::PieceValue;
-use eval_piece_values::value_of;
+use eval_concat::join_answer;
+use eval_concat::steps::JoinStep;
+use eval_pieces::cursor::is_sole;
 use eval_pieces::piece_of;
-use eval_pieces_joined::join_pieces;
-use eval_sizes::Outcome;
-use eval_sizes::outcome_of;
-use eval_sizes::sized;
-ghost use Rattle.eval_questions.specs.Contracts.{Asked};
-ghost use Rattle.eval_questions.specs.Rules.{OnePiece};
+use eval_results::sizes::Outcome;
+use eval_results::sizes::outcome_of;
+use eval_results::sizes::sized;
+ghost use Rattle.eval_question_laws.specs.Contracts.{Asked};
+ghost use Rattle.eval_question_laws.specs.Rules.{OnePiece};
 ghost use Rattle.eval_unresolved.specs.Contracts.{OutcomeIs};
 ghost use Rattle.eval_unresolved.specs.Parts.{SoleAsked, OutcomeFor};
 

@@ -14,19 +14,19 @@ use Rattle.rules.specs.Layers.{Layer, written, Counted}
 use Rattle.rules.specs.Settled.{Given}
 use Rattle.doc_items.specs.Room.{capacity, numberBound}
 use Rattle.sheet_kept.specs.Kept.{named}
-use Rattle.eval_members.specs.Model.{keyAt}
+use Rattle.eval_nodes.specs.Model.{keyAt}
 use Rattle.eval_writer.specs.declared.Out.{Out}
 use Rattle.eval_writer.specs.declared.Source.{Source}
 use Rattle.eval_stack.specs.Model.{entries, Work, codeAt, seg}
 use Rattle.eval_stack.specs.Contracts.{PushIs}
-use Rattle.eval_tables.specs.Finished.{Memory, Stored, SettledAt, settled-keys}
+use Rattle.eval_memory.specs.Finished.{Memory, Stored, SettledAt, settled-keys}
 use Rattle.eval_groups.specs.Model.{State, putC, addC, addMembersC, objectMembers}
 use Rattle.eval_groups.specs.Contracts.{MembersIs}
 use Rattle.eval_layers.specs.declared.Taken.{Taken}
-use Rattle.eval_taken.specs.Levels.{members-level}
-use Rattle.eval_records.specs.Sources.{recordsOf}
+use Rattle.eval_groups.specs.Select.Levels.{members-level}
+use Rattle.eval_writer.specs.Copies.Sources.{recordsOf}
 use Rattle.eval_leaves.specs.Contracts.{SimpleValueIs, FinishedIs}
-use Rattle.eval_worked.specs.declared.Worked.{Worked}
+use Rattle.eval_results.specs.declared.values.Worked.{Worked}
 use Rattle.eval_value_laws.specs.declared.Origin.{Origin}
 use Rattle.eval_value_laws.specs.declared.Begun.{Begun}
 use Rattle.eval_value_laws.specs.Ground.{Names, memoryOf, ValueComes}

@@ -17,22 +17,22 @@ use Rattle.doc_items.specs.Room.{capacity, numberBound}
 use Rattle.eval_writer.specs.Contracts.{Room}
 use Rattle.eval_writer.specs.declared.Out.{Out}
 use Rattle.eval_writer.specs.declared.Source.{Source}
-use Rattle.eval_records.specs.Contracts.{mostBytes}
-use Rattle.eval_extents.specs.Contracts.{NotPast}
-use Rattle.eval_answers.specs.declared.Answered.{Answered}
+use Rattle.eval_writer.specs.Copies.Contracts.{mostBytes}
+use Rattle.eval_results.specs.Extents.Contracts.{NotPast}
+use Rattle.eval_nodes.specs.declared.answer.Answered.{Answered}
 use Rattle.eval_stack.specs.Model.{entries, Work}
-use Rattle.eval_members.specs.Model.{answeredAt}
-use Rattle.eval_tables.specs.Keys.{KeyNumber}
-use Rattle.eval_tables.specs.Finished.{Memory, Stored, SettledAt}
-use Rattle.eval_tables.specs.Tables.{WrittenAt, Tables, Shows}
+use Rattle.eval_nodes.specs.Model.{answeredAt}
+use Rattle.eval_memory.specs.Keys.{KeyNumber}
+use Rattle.eval_memory.specs.Finished.{Memory, Stored, SettledAt}
+use Rattle.eval_memory.specs.Tables.{WrittenAt, Tables, Shows}
 use Rattle.eval_groups.specs.Contracts.{Below}
 use Rattle.eval_groups.specs.Room.{Roomy}
 use Rattle.eval_layers.specs.declared.Taken.{Taken}
-use Rattle.eval_taken.specs.Levels.{ObjectsAt, Level, keysFrom}
+use Rattle.eval_groups.specs.Select.Levels.{ObjectsAt, Level, keysFrom}
 use Rattle.eval_leaves.specs.Contracts.{HoldsSimple, KeyBeforeIs}
-use Rattle.eval_worked.specs.Contracts.{WorkedWithin, MadeWithin}
-use Rattle.eval_worked.specs.declared.Worked.{Worked}
-use Rattle.eval_worked.specs.declared.Made.{Made}
+use Rattle.eval_results.specs.Values.Contracts.{WorkedWithin, MadeWithin}
+use Rattle.eval_results.specs.declared.values.Worked.{Worked}
+use Rattle.eval_results.specs.declared.values.Made.{Made}
 use Rattle.eval_value_laws.specs.declared.Origin.{Origin}
 use Rattle.eval_value_laws.specs.declared.Begun.{Begun}
 use Rattle.eval_value_laws.specs.declared.Field.{Field}

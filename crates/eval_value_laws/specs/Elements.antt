@@ -12,11 +12,11 @@ use Rattle.rules.specs.Tree.{Node, Elements, no-elements, element}
 use Rattle.doc_items.specs.Codes.{asMember}
 use Rattle.doc_items.specs.Holds.{Seams, ElementsAt}
 use Rattle.doc_items.specs.Parts.{numbers, letters}
-use Rattle.eval_members.specs.Model.{memberAt}
-use Rattle.eval_members.specs.declared.Member.{Member}
-use Rattle.eval_tables.specs.Finished.{Memory, Stored}
-use Rattle.eval_tables.specs.Tables.{Number, WrittenAt, as-member}
-use Rattle.eval_tables.specs.Views.{member-skip, member-one, member-small}
+use Rattle.eval_nodes.specs.Model.{memberAt}
+use Rattle.eval_nodes.specs.declared.Member.{Member}
+use Rattle.eval_memory.specs.Finished.{Memory, Stored}
+use Rattle.eval_memory.specs.Tables.{Number, WrittenAt, as-member}
+use Rattle.eval_memory.specs.Views.{member-skip, member-one, member-small}
 
 module _ (M : Memory) where
   abbrev T : List ℕ

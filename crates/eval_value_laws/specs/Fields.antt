@@ -13,19 +13,19 @@ use Rattle.rules.specs.Settled.{Given, pushAll, membersIn, countedIn, valueIn}
 use Rattle.eval_writer.specs.Keys.{KeyIn}
 use Rattle.eval_writer.specs.declared.Out.{Out}
 use Rattle.eval_writer.specs.declared.Source.{Source}
-use Rattle.eval_extents.specs.Contracts.{far, NotPast, Bounded}
-use Rattle.eval_extents.specs.Members.{begun}
-use Rattle.eval_extents.specs.declared.Extent.{Extent}
+use Rattle.eval_results.specs.Extents.Contracts.{far, NotPast, Bounded}
+use Rattle.eval_results.specs.Extents.Members.{begun}
+use Rattle.eval_results.specs.declared.extents.Extent.{Extent}
 use Rattle.eval_stack.specs.Model.{entries}
-use Rattle.eval_tables.specs.Keys.{KeyNumber}
+use Rattle.eval_memory.specs.Keys.{KeyNumber}
 use Rattle.eval_layers.specs.declared.Taken.{Taken}
-use Rattle.eval_taken.specs.Levels.{level-stays, level-keys, keys-none, keys-stay}
+use Rattle.eval_groups.specs.Select.Levels.{level-stays, level-keys, keys-none, keys-stay}
 use Rattle.eval_leaves.specs.Contracts.{KeyBeforeIs}
-use Rattle.eval_worked.specs.Contracts.{MadeWithin, oneMore, OneMoreIs}
-use Rattle.eval_worked.specs.Comes.{ComesBy, FieldsCome}
-use Rattle.eval_worked.specs.Steps.{FieldsSoFar, fields-begin, fields-done, fields-need, fields-end}
-use Rattle.eval_worked.specs.declared.Worked.{Worked}
-use Rattle.eval_worked.specs.declared.Made.{Made}
+use Rattle.eval_results.specs.Values.Contracts.{MadeWithin, oneMore, OneMoreIs}
+use Rattle.eval_results.specs.Values.Comes.{ComesBy, FieldsCome}
+use Rattle.eval_results.specs.Values.Steps.{FieldsSoFar, fields-begin, fields-done, fields-need, fields-end}
+use Rattle.eval_results.specs.declared.values.Worked.{Worked}
+use Rattle.eval_results.specs.declared.values.Made.{Made}
 use Rattle.eval_value_laws.specs.declared.Field.{Field}
 use Rattle.eval_value_laws.specs.Ground.{Names, memoryOf}
 use Rattle.eval_value_laws.specs.Contracts.{Asked, Left, MembersGiven, countedBy, TakenIn, TakenValueIs, membersFrom, FieldBy, FieldIs, OneMore, FieldsIs}

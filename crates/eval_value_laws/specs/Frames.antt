@@ -7,17 +7,17 @@ use lib.ListN.{length}
 use lib.Seq.{getD-set-same}
 use Rattle.eval_writer.specs.declared.Out.{Out}
 use Rattle.eval_writer.specs.declared.Source.{Source}
-use Rattle.eval_extents.specs.Contracts.{NotPast, ClipOutIs, ClipIs, Bounded}
-use Rattle.eval_extents.specs.declared.Extent.{Extent}
+use Rattle.eval_results.specs.Extents.Contracts.{NotPast, ClipOutIs, ClipIs, Bounded}
+use Rattle.eval_results.specs.declared.extents.Extent.{Extent}
 use Rattle.eval_stack.specs.Model.{entries, Work, codePlace, codeAt}
 use Rattle.eval_stack.specs.Contracts.{PushIs}
 use Rattle.eval_stack.specs.Pushes.{push-grows, pushed-room, top-room}
-use Rattle.eval_taken.specs.Levels.{same-below, below-then, below-lower}
-use Rattle.eval_records.specs.Sources.{SourceIn}
+use Rattle.eval_groups.specs.Select.Levels.{same-below, below-then, below-lower}
+use Rattle.eval_writer.specs.Copies.Sources.{SourceIn}
 use Rattle.eval_leaves.specs.Contracts.{FinishedAsked, KeyBeforeIs}
-use Rattle.eval_worked.specs.Contracts.{WorkedWithin, MadeWithin, oneMore, OneMoreIs, HeadedBy, HeadedIs}
-use Rattle.eval_worked.specs.declared.Worked.{Worked}
-use Rattle.eval_worked.specs.declared.Made.{Made}
+use Rattle.eval_results.specs.Values.Contracts.{WorkedWithin, MadeWithin, oneMore, OneMoreIs, HeadedBy, HeadedIs}
+use Rattle.eval_results.specs.declared.values.Worked.{Worked}
+use Rattle.eval_results.specs.declared.values.Made.{Made}
 use Rattle.eval_value_laws.specs.Contracts.{Asked, Left, OneMore}
 
 -- ---- what stays

@@ -15,16 +15,16 @@ use Rattle.rules.specs.Settled.{no, Given, Settled, pushAll, deeperIn, deeperOf
 use Rattle.rules.specs.Weights.{weightOf}
 use Rattle.theory.specs.Depths.{heightIn, deeper-low}
 use Rattle.doc_items.specs.Room.{capacity, answersAt}
-use Rattle.eval_answers.specs.Model as model
-use Rattle.eval_answers.specs.declared.Answered.{Answered}
-use Rattle.eval_members.specs.Model.{answeredAt}
+use Rattle.eval_nodes.specs.Answer.Model as model
+use Rattle.eval_nodes.specs.declared.answer.Answered.{Answered}
+use Rattle.eval_nodes.specs.Model.{answeredAt}
 use Rattle.eval_stack.specs.Model.{entries, codeAt}
-use Rattle.eval_tables.specs.Finished.{Memory}
-use Rattle.eval_tables.specs.Tables.{WrittenAt, AnswerAt, Shows, layer-shown, unresolved-shown}
+use Rattle.eval_memory.specs.Finished.{Memory}
+use Rattle.eval_memory.specs.Tables.{WrittenAt, AnswerAt, Shows, layer-shown, unresolved-shown}
 use Rattle.eval_groups.specs.Entries.{objects-stand}
 use Rattle.eval_groups.specs.Room.{objects-weigh}
-use Rattle.eval_taken.specs.Levels.{object-alone, level-top}
-use Rattle.eval_taken.specs.Uses.{Merging}
+use Rattle.eval_groups.specs.Select.Levels.{object-alone, level-top}
+use Rattle.eval_groups.specs.Select.Uses.{Merging}
 use Rattle.eval_value_laws.specs.Counting.{LayerDeep, NoObject, one-low, merged-low, merged-high}
 use Rattle.eval_value_laws.specs.OneRoom.{one-fits}
 use Rattle.eval_value_laws.specs.Elements.{ElementsShown}

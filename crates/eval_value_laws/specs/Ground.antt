@@ -6,12 +6,12 @@ use Rattle.rules.specs.Settled.{Given}
 use Rattle.rules.specs.Values.{Values, Members, Answer}
 use Rattle.eval_writer.specs.declared.Out.{Out}
 use Rattle.eval_writer.specs.declared.Source.{Source}
-use Rattle.eval_records.specs.Sources.{recordsOf}
-use Rattle.eval_tables.specs.Keys.{KeyNumber}
-use Rattle.eval_tables.specs.Finished.{Memory}
-use Rattle.eval_worked.specs.Comes.{Comes, ElementsCome, FieldsCome}
-use Rattle.eval_worked.specs.declared.Worked.{Worked}
-use Rattle.eval_worked.specs.declared.Made.{Made}
+use Rattle.eval_writer.specs.Copies.Sources.{recordsOf}
+use Rattle.eval_memory.specs.Keys.{KeyNumber}
+use Rattle.eval_memory.specs.Finished.{Memory}
+use Rattle.eval_results.specs.Values.Comes.{Comes, ElementsCome, FieldsCome}
+use Rattle.eval_results.specs.declared.values.Worked.{Worked}
+use Rattle.eval_results.specs.declared.values.Made.{Made}
 
 -- What the functions are not told: the text that a key's number names, how many items there are, how far the document's texts go, how many
 -- answers stand among the source's values, and how far its records and texts go.

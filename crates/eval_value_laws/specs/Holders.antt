@@ -11,14 +11,14 @@ use Rattle.doc_items.specs.Room.{capacity}
 use Rattle.eval_writer.specs.Building.{inside}
 use Rattle.eval_writer.specs.declared.Out.{Out}
 use Rattle.eval_writer.specs.declared.Source.{Source}
-use Rattle.eval_extents.specs.Contracts.{ClipOutIs}
+use Rattle.eval_results.specs.Extents.Contracts.{ClipOutIs}
 use Rattle.eval_groups.specs.Contracts.{MembersIs}
 use Rattle.eval_layers.specs.declared.Taken.{Taken}
-use Rattle.eval_records.specs.Sources.{recordsOf}
-use Rattle.eval_worked.specs.Contracts.{HeadedIs}
-use Rattle.eval_worked.specs.Steps.{array-comes, object-comes}
-use Rattle.eval_worked.specs.declared.Worked.{Worked}
-use Rattle.eval_worked.specs.declared.Made.{Made}
+use Rattle.eval_writer.specs.Copies.Sources.{recordsOf}
+use Rattle.eval_results.specs.Values.Contracts.{HeadedIs}
+use Rattle.eval_results.specs.Values.Steps.{array-comes, object-comes}
+use Rattle.eval_results.specs.declared.values.Worked.{Worked}
+use Rattle.eval_results.specs.declared.values.Made.{Made}
 use Rattle.eval_value_laws.specs.declared.Begun.{Begun}
 use Rattle.eval_value_laws.specs.Contracts.{Asked, NodeIs, ObjectIs, TakenValueIs, FieldsIs, ElementsIs, BegunBy, BegunIs}
 use Rattle.eval_value_laws.specs.Frames.{left-then, left-lower, asked-again, clip-not-past, headed-within}

@@ -13,24 +13,24 @@ use Rattle.rules.specs.Layers.{Counted, nothing, one, madeItem}
 use Rattle.rules.specs.Settled.{Given, nodeIn, elementsIn, countedIn, valueIn}
 use Rattle.doc_items.specs.Room.{capacity, numberBound}
 use Rattle.doc_items.specs.Writing.{ReadIs}
-use Rattle.eval_answers.specs.declared.Answered.{Answered}
+use Rattle.eval_nodes.specs.declared.answer.Answered.{Answered}
 use Rattle.eval_writer.specs.declared.Out.{Out}
 use Rattle.eval_writer.specs.declared.Source.{Source}
-use Rattle.eval_extents.specs.Contracts.{far, NotPast, Bounded}
-use Rattle.eval_extents.specs.Members.{begun}
-use Rattle.eval_extents.specs.declared.Extent.{Extent}
-use Rattle.eval_members.specs.Model.{answeredAt}
-use Rattle.eval_members.specs.Contracts.{MemberIs}
-use Rattle.eval_members.specs.Members.{skip-less, one-less}
-use Rattle.eval_members.specs.declared.Member.{Member}
-use Rattle.eval_tables.specs.Keys.{KeyNumber}
+use Rattle.eval_results.specs.Extents.Contracts.{far, NotPast, Bounded}
+use Rattle.eval_results.specs.Extents.Members.{begun}
+use Rattle.eval_results.specs.declared.extents.Extent.{Extent}
+use Rattle.eval_nodes.specs.Model.{answeredAt}
+use Rattle.eval_nodes.specs.Contracts.{MemberIs}
+use Rattle.eval_nodes.specs.Members.{skip-less, one-less}
+use Rattle.eval_nodes.specs.declared.Member.{Member}
+use Rattle.eval_memory.specs.Keys.{KeyNumber}
 use Rattle.eval_layers.specs.declared.Taken.{Taken}
-use Rattle.eval_records.specs.Sources.{recordsOf}
-use Rattle.eval_worked.specs.Contracts.{MadeWithin, oneMore, OneMoreIs}
-use Rattle.eval_worked.specs.Comes.{Comes, ElementsCome}
-use Rattle.eval_worked.specs.Steps.{ElementsSoFar, elements-begin, elements-end, elements-done, elements-undefined, elements-need}
-use Rattle.eval_worked.specs.declared.Worked.{Worked}
-use Rattle.eval_worked.specs.declared.Made.{Made}
+use Rattle.eval_writer.specs.Copies.Sources.{recordsOf}
+use Rattle.eval_results.specs.Values.Contracts.{MadeWithin, oneMore, OneMoreIs}
+use Rattle.eval_results.specs.Values.Comes.{Comes, ElementsCome}
+use Rattle.eval_results.specs.Values.Steps.{ElementsSoFar, elements-begin, elements-end, elements-done, elements-undefined, elements-need}
+use Rattle.eval_results.specs.declared.values.Worked.{Worked}
+use Rattle.eval_results.specs.declared.values.Made.{Made}
 use Rattle.eval_value_laws.specs.Ground.{Names, memoryOf, ValueComes}
 use Rattle.eval_value_laws.specs.Elements.{ElementsShown, ElementStep, element-met}
 use Rattle.eval_value_laws.specs.Contracts.{Asked, Left, ElementGiven, ElementsGiven, TakenIn, TakenGivenBy, countedBy, TakenValueIs, OneMore, ElementsIs, takenOf, ElementTakenIs, ElementsEndIs}

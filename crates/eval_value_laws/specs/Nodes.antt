@@ -19,11 +19,11 @@ use Rattle.doc_items.specs.Writing.{ReadIs}
 use Rattle.eval_writer.specs.declared.Source.{Source}
 use Rattle.eval_stack.specs.Model.{codeAt, seg}
 use Rattle.eval_stack.specs.Contracts.{CodeIs}
-use Rattle.eval_tables.specs.Finished.{Memory, SettledAt}
-use Rattle.eval_tables.specs.Tables.{Number, Shows, Match, code-small, kind-only, item-low}
+use Rattle.eval_memory.specs.Finished.{Memory, SettledAt}
+use Rattle.eval_memory.specs.Tables.{Number, Shows, Match, code-small, kind-only, item-low}
 use Rattle.eval_groups.specs.Entries.{Objects}
 use Rattle.eval_layers.specs.declared.Taken.{Taken}
-use Rattle.eval_taken.specs.Levels.{objects-size}
+use Rattle.eval_groups.specs.Select.Levels.{objects-size}
 use Rattle.eval_leaves.specs.Items.{holds-simple}
 use Rattle.eval_value_laws.specs.declared.Origin.{Origin}
 use Rattle.eval_value_laws.specs.Ground.{Names, memoryOf}

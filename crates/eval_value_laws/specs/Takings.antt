@@ -10,25 +10,25 @@ use Rattle.rules.specs.Tree.{simple, array, object, unresolved}
 use Rattle.rules.specs.Values.{arrayOf, Members, Answer}
 use Rattle.rules.specs.Layers.{Layer, written, settled, Counted, nothing, one, merged, madeMember}
 use Rattle.rules.specs.Settled.{Settled, Given, pushAll, deeperIn, deeperOf, gatherIn, gatherOf, membersIn, mergedIn, nodeIn, elementsIn, layerIn, countedIn, valueIn}
-use Rattle.eval_answers.specs.declared.Answered.{Answered}
+use Rattle.eval_nodes.specs.declared.answer.Answered.{Answered}
 use Rattle.eval_writer.specs.declared.Out.{Out}
 use Rattle.eval_writer.specs.declared.Source.{Source}
-use Rattle.eval_members.specs.Model.{keyAt}
-use Rattle.eval_members.specs.Contracts.{KeyIs, AnsweredIs}
+use Rattle.eval_nodes.specs.Model.{keyAt}
+use Rattle.eval_nodes.specs.Contracts.{KeyIs, AnsweredIs}
 use Rattle.eval_stack.specs.Model.{codeAt}
 use Rattle.eval_stack.specs.Contracts.{LinkIs}
-use Rattle.eval_tables.specs.Keys.{KeyNumber}
-use Rattle.eval_tables.specs.Finished.{Memory}
-use Rattle.eval_tables.specs.Tables.{Shows}
+use Rattle.eval_memory.specs.Keys.{KeyNumber}
+use Rattle.eval_memory.specs.Finished.{Memory}
+use Rattle.eval_memory.specs.Tables.{Shows}
 use Rattle.eval_layers.specs.Gather.{TakenShows, nothing-shows, one-shows, needs-shows, merged-shows}
 use Rattle.eval_layers.specs.declared.Taken.{Taken}
-use Rattle.eval_taken.specs.Contracts.{TakeIs}
-use Rattle.eval_taken.specs.Levels.{keys-first, keys-later, entry-number, same-below}
-use Rattle.eval_taken.specs.Tops.{taken-low, taken-high}
-use Rattle.eval_taken.specs.Uses.{Merging, take-shows}
-use Rattle.eval_records.specs.Sources.{recordsOf}
+use Rattle.eval_groups.specs.Select.Contracts.{TakeIs}
+use Rattle.eval_groups.specs.Select.Levels.{keys-first, keys-later, entry-number, same-below}
+use Rattle.eval_groups.specs.Select.Tops.{taken-low, taken-high}
+use Rattle.eval_groups.specs.Select.Uses.{Merging, take-shows}
+use Rattle.eval_writer.specs.Copies.Sources.{recordsOf}
 use Rattle.eval_leaves.specs.Contracts.{KeyBeforeIs}
-use Rattle.eval_worked.specs.Steps.{then-done}
+use Rattle.eval_results.specs.Values.Steps.{then-done}
 use Rattle.eval_value_laws.specs.declared.Field.{Field}
 use Rattle.eval_value_laws.specs.Ground.{Names, memoryOf}
 use Rattle.eval_value_laws.specs.Contracts.{Left, mergedBy, countedBy, LayerGiven, MembersGiven, TakenGivenBy, TakenIn, membersFrom, FieldIs, takenOf, ElementTakenIs}

@@ -1,7 +1,7 @@
-// What the functions of `eval_origins`, `eval_fields` and `eval_values` answer and promise, and a law for each place where one of them returns.
+// What the functions of `eval_value_cases` and `eval_values` answer and promise, and a law for each place where one of them returns.
 // No code.
 use eval_layers::Taken;
-use eval_worked::Worked;
+use eval_results::values::Worked;
 use eval_writer::Out;
 
 /// What a value is written from.

@@ -1,22 +1,25 @@
 // The cycle of values: what layers come to, the members of objects and the elements of an array, against the answers so far, written into the
 // value's room, or where an answer is missing. What is undefined leaves the room as it was.
 // Computes: Settled (countedIn, membersIn, elementsIn; by the relations of eval_value_laws)
+
+pub mod objects;
+
 use codes::kinds;
-use eval_extents::Extent;
-use eval_fields::element_taken;
-use eval_fields::elements_end;
-use eval_fields::field_at;
+use eval_groups::sources::element_at;
 use eval_layers::Taken;
 use eval_leaves::behind_head;
-use eval_members::Member;
-use eval_origins::begin_value;
-use eval_sources::element_at;
+use eval_nodes::Member;
+use eval_results::extents::Extent;
+use eval_results::values::Made;
+use eval_results::values::Worked;
+use eval_results::values::headed;
+use eval_results::values::one_more;
+use eval_value_cases::begin_value;
+use eval_value_cases::element_taken;
+use eval_value_cases::elements_end;
+use eval_value_cases::field_at;
 use eval_value_laws::Begun;
 use eval_value_laws::Field;
-use eval_worked::Made;
-use eval_worked::Worked;
-use eval_worked::headed;
-use eval_worked::one_more;
 use eval_writer::Out;
 use eval_writer::Source;
 ghost use Prim.Native.Nat.{_<_, _≤_};

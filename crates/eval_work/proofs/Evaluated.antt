@@ -2,8 +2,8 @@
 use mathlib.Core.Path.{_≡_, refl}
 use Prim.Native.Nat.{ℕ, _-_, _<_}
 use Rattle.text_chars.specs.declared.DocAt.{DocAt}
-use Rattle.eval_extents.specs.declared.Extent.{Extent}
-use Rattle.eval_sizes.specs.declared.Outcome.{Outcome}
+use Rattle.eval_results.specs.declared.extents.Extent.{Extent}
+use Rattle.eval_results.specs.declared.sizes.Outcome.{Outcome}
 use Rattle.eval_work.specs.Contracts.{OlderAsked, OlderIs}
 
 module _ {o : Outcome} {n : ℕ} where

@@ -29,14 +29,14 @@ use Rattle.eval_state.specs.Memories.{NumberIn, answersOf}
 use Rattle.eval_state.specs.Documents.{DocumentIn, UnresolvedAt}
 use Rattle.eval_state.specs.State.{State}
 use Rattle.eval_state.specs.Later.{later-beside, later-then}
-use Rattle.eval_sizes.specs.declared.Outcome.{Outcome}
+use Rattle.eval_results.specs.declared.sizes.Outcome.{Outcome}
 use Rattle.eval_unresolved.specs.Contracts.{Questioned}
-use Rattle.eval_order.specs.Contracts.{Holding}
-use Rattle.eval_order.specs.declared.Progress.{Progress}
-use Rattle.eval_turns.specs.Contracts.{listRoom, piecesAt, newest, newestPiece, ItemIs}
-use Rattle.eval_newest.specs.Contracts.{Goes, NewestAsked, NewestCase, NewestIs}
-use Rattle.eval_refusals.specs.Contracts.{RefusalAsked, Posed}
-use Rattle.eval_questions.specs.Work.{Lent, WorkAsked}
+use Rattle.eval_trail.specs.Contracts.{Holding}
+use Rattle.eval_trail.specs.declared.Progress.{Progress}
+use Rattle.eval_trail.specs.Turns.Contracts.{listRoom, piecesAt, newest, newestPiece, ItemIs}
+use Rattle.eval_outcomes.specs.Newest.Contracts.{Goes, NewestAsked, NewestCase, NewestIs}
+use Rattle.eval_outcomes.specs.Refusals.Contracts.{RefusalAsked, Posed}
+use Rattle.eval_question_laws.specs.Work.{Lent, WorkAsked}
 use Rattle.eval_work.proofs.Standing.{goes-same, Going, Listed, listed-set, numbers-length, listed-low, Standing, Come, Newest, Awaited, Due, Pending, Refuses}
 
 -- ---- an unresolved value of the document, by its number

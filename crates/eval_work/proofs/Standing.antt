@@ -26,15 +26,15 @@ use Rattle.doc_items.specs.Room.{capacity, answersAt}
 use Rattle.read_numbering.specs.Contracts.{itemOf}
 use Rattle.eval_state.specs.State.{State}
 use Rattle.eval_state.specs.Later.{Later}
-use Rattle.eval_sizes.specs.declared.Outcome.{Outcome}
-use Rattle.eval_join_steps.specs.Contracts.{RefusedWith}
+use Rattle.eval_results.specs.declared.sizes.Outcome.{Outcome}
+use Rattle.eval_concat.specs.Steps.Contracts.{RefusedWith}
 use Rattle.eval_unresolved.specs.Contracts.{ValueDone}
-use Rattle.eval_order.specs.Contracts.{Holding}
-use Rattle.eval_order.specs.declared.Progress.{Progress}
-use Rattle.eval_turns.specs.Contracts.{piecesAt}
-use Rattle.eval_pieces_joined.specs.Contracts.{Behind}
-use Rattle.eval_newest.specs.Contracts.{GoesAt, Goes, begins, further}
-use Rattle.eval_questions.specs.Work.{WorkAsked}
+use Rattle.eval_trail.specs.Contracts.{Holding}
+use Rattle.eval_trail.specs.declared.Progress.{Progress}
+use Rattle.eval_trail.specs.Turns.Contracts.{piecesAt}
+use Rattle.eval_unresolved.specs.Pieces.Contracts.{Behind}
+use Rattle.eval_outcomes.specs.Newest.Contracts.{GoesAt, Goes, begins, further}
+use Rattle.eval_question_laws.specs.Work.{WorkAsked}
 
 -- ---- a position among the pieces, in a table with the same document
 

@@ -23,15 +23,15 @@ use Rattle.text_chars.specs.declared.DocAt.{DocAt}
 use Rattle.sheet_kept.specs.Kept.{named}
 use Rattle.eval_state.specs.Later.{later-then}
 use Rattle.eval_writer.specs.Contracts.{Room}
-use Rattle.eval_sizes.specs.Outcomes.{OutcomeWithin}
-use Rattle.eval_sizes.specs.declared.Outcome.{Outcome}
-use Rattle.eval_order.specs.Contracts.{Holding, Begins, Lays, LayIs, NoneIs}
-use Rattle.eval_order.specs.declared.Progress.{Progress}
-use Rattle.eval_order.specs.declared.Step.{Step}
-use Rattle.eval_turns.specs.Contracts.{listRoom, piecesAt, newest, Laid, LaidIs, begunNext, begunList, TurnNeeds, TurnCase, TurnIs}
-use Rattle.eval_turns.specs.declared.Next.{Next}
-use Rattle.eval_newest.specs.Contracts.{begins}
-use Rattle.eval_questions.specs.Work.{WorkAsked, WorkedOut}
+use Rattle.eval_results.specs.Sizes.Outcomes.{OutcomeWithin}
+use Rattle.eval_results.specs.declared.sizes.Outcome.{Outcome}
+use Rattle.eval_trail.specs.Contracts.{Holding, Begins, Lays, LayIs, NoneIs}
+use Rattle.eval_trail.specs.declared.Progress.{Progress}
+use Rattle.eval_trail.specs.declared.Step.{Step}
+use Rattle.eval_trail.specs.Turns.Contracts.{listRoom, piecesAt, newest, Laid, LaidIs, begunNext, begunList, TurnNeeds, TurnCase, TurnIs}
+use Rattle.eval_trail.specs.declared.turns.Next.{Next}
+use Rattle.eval_outcomes.specs.Newest.Contracts.{begins}
+use Rattle.eval_question_laws.specs.Work.{WorkAsked, WorkedOut}
 use Rattle.eval_work.specs.Contracts.{olderC, OlderNeeds}
 use Rattle.eval_work.proofs.Standing.{Going, Listed, listed-set, numbers-length, turnsAt, Standing, Come, Newest, Awaited, Due, Pending, Refuses}
 use Rattle.eval_work.proofs.Questions.{listed-one}

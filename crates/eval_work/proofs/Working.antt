@@ -15,15 +15,15 @@ use Rattle.theory_order.specs.WorkLaws.{firstIn, work-begins, work-barred}
 use Rattle.text_chars.specs.declared.DocAt.{DocAt}
 use Rattle.eval_groups.specs.Contracts.{Below}
 use Rattle.eval_state.specs.Later.{later-same}
-use Rattle.eval_sizes.specs.Outcomes.{OutcomeWithin}
-use Rattle.eval_sizes.specs.declared.Outcome.{Outcome}
-use Rattle.eval_order.specs.declared.Progress.{Progress}
-use Rattle.eval_order.specs.declared.Step.{Step}
-use Rattle.eval_turns.specs.Contracts.{listRoom, TurnAsked, TurnIs, ItemIs}
-use Rattle.eval_turns.specs.declared.Next.{Next}
-use Rattle.eval_newest.specs.Contracts.{NewestAsked, NewestIs}
-use Rattle.eval_refusals.specs.Contracts.{RefusalAsked, RefusesAs, RefusalIs}
-use Rattle.eval_questions.specs.Work.{Lent, WorkAsked, Works, WorkIs}
+use Rattle.eval_results.specs.Sizes.Outcomes.{OutcomeWithin}
+use Rattle.eval_results.specs.declared.sizes.Outcome.{Outcome}
+use Rattle.eval_trail.specs.declared.Progress.{Progress}
+use Rattle.eval_trail.specs.declared.Step.{Step}
+use Rattle.eval_trail.specs.Turns.Contracts.{listRoom, TurnAsked, TurnIs, ItemIs}
+use Rattle.eval_trail.specs.declared.turns.Next.{Next}
+use Rattle.eval_outcomes.specs.Newest.Contracts.{NewestAsked, NewestIs}
+use Rattle.eval_outcomes.specs.Refusals.Contracts.{RefusalAsked, RefusesAs, RefusalIs}
+use Rattle.eval_question_laws.specs.Work.{Lent, WorkAsked, Works, WorkIs}
 use Rattle.eval_work.specs.Contracts.{olderC, OlderAsked, OlderIs}
 use Rattle.eval_work.proofs.Standing.{numbers-length, listed-oldest, turnsAt, Come, Pending, Refuses}
 use Rattle.eval_work.proofs.Turns.{turn-asks, turn-some, turn-on, turn-ends, turn-refused}

@@ -1,7 +1,7 @@
 -- How many of the questions that are being worked out may have refused before a refusal.
 use mathlib.Core.Path.{_≡_}
 use Prim.Native.Nat.{ℕ, _-_, _<_}
-use Rattle.eval_sizes.specs.declared.Outcome.{Outcome}
+use Rattle.eval_results.specs.declared.sizes.Outcome.{Outcome}
 
 -- all, but for the newest where it was evaluated: then it did not refuse, or the refusal is its own
 abbrev pub olderC : Outcome → ℕ → ℕ

@@ -2,18 +2,18 @@
 // before it. Of the newest, what its pieces miss is worked out first, piece after piece; then it is evaluated once, and laid. So no join is
 // repeated when an answer is missing.
 // Computes: Jobs (orderOf), as theory_order's work
-use eval_newest::newest_outcome;
-use eval_order::Progress;
-use eval_order::Step;
-use eval_refusals::first_refusal;
-use eval_sizes::Outcome;
-use eval_turns::Next;
-use eval_turns::newest_item;
-use eval_turns::turned;
+use eval_outcomes::newest::newest_outcome;
+use eval_outcomes::refusals::first_refusal;
+use eval_results::sizes::Outcome;
+use eval_trail::Progress;
+use eval_trail::Step;
+use eval_trail::turns::Next;
+use eval_trail::turns::newest_item;
+use eval_trail::turns::turned;
 ghost use Prim.Native.Nat.{_≤_};
 ghost use lib.ListN.{length};
-ghost use Rattle.eval_turns.specs.Contracts.{listRoom};
-ghost use Rattle.eval_questions.specs.Work.{WorkAsked, WorkIs};
+ghost use Rattle.eval_trail.specs.Turns.Contracts.{listRoom};
+ghost use Rattle.eval_question_laws.specs.Work.{WorkAsked, WorkIs};
 ghost use Rattle.eval_work.specs.Contracts.{OlderAsked, OlderIs};
 
 // How many of n questions may have refused before, where the newest came to o: all, but for the newest where it was evaluated.

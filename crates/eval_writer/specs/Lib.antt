@@ -5,3 +5,4 @@ pub mod Composition
 pub mod Keys
 pub mod Building
 mod Examples
+pub mod Copies

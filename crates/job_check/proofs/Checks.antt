@@ -17,15 +17,15 @@ use Rattle.theory.specs.ReadingEnds.{inputs-end}
 use Rattle.text_chars.specs.declared.DocAt.{DocAt}
 use Rattle.text_environment.specs.Answers.{accepted-is}
 use Rattle.read_documents.specs.declared.Reading.{Reading}
-use Rattle.read_listing.specs.Listing.{listed-as-read}
+use Rattle.read_laws.specs.Listing.{listed-as-read}
 use Rattle.eval_writer.specs.Contracts.{Room}
-use Rattle.eval_records.specs.Contracts.{mostBytes}
+use Rattle.eval_writer.specs.Copies.Contracts.{mostBytes}
 use Rattle.eval_stack.specs.Model.{Work}
 use Rattle.eval_state.specs.Memories.{jobTable, jobBytes}
-use Rattle.job_resolved.specs.Contracts.{CheckIs}
-use Rattle.job_resolved.specs.declared.Verdict.{Verdict}
-use Rattle.job_tasks.specs.Contracts.{Ready, TaskCase, TaskIs}
-use Rattle.check_trails.specs.Contracts.{Known, SheetAsked, SheetIs}
+use Rattle.job_results.specs.Contracts.{CheckIs}
+use Rattle.job_results.specs.declared.Verdict.{Verdict}
+use Rattle.job_inputs.specs.Contracts.{Ready, TaskCase, TaskIs}
+use Rattle.job_check.specs.Trails.Contracts.{Known, SheetAsked, SheetIs}
 use Rattle.job_check.specs.Contracts.{partsFit, PartsFit}
 
 others-true : (others : Bool) (s e : List ℕ) (x : Setting) → inputs others s e ≡ valid x → others ≡ true

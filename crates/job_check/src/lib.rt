@@ -1,11 +1,14 @@
 // The job check: a sheet is held against what the rules give, entry by entry. Nothing of the caller's is written.
 // Computes: Jobs (checkJob)
-use check_trails::check_sheet;
+
+pub mod trails;
+
+use crate::trails::check_sheet;
 use codes::limits;
-use job_resolved::Verdict;
-use job_tasks::read_task;
+use job_inputs::read_task;
+use job_results::Verdict;
 use read_documents::Reading;
-ghost use Rattle.job_resolved.specs.Contracts.{CheckIs};
+ghost use Rattle.job_results.specs.Contracts.{CheckIs};
 ghost use Rattle.job_check.specs.Contracts.{PartsFit};
 
 // Whether no part of a sheet is over its bytes.

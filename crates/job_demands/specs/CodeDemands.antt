@@ -39,13 +39,13 @@ use Rattle.theory.specs.Demands as demands
 use Rattle.theory.specs.Promises as promises
 use Rattle.text_chars.specs.declared.DocAt.{DocAt}
 use Rattle.text_chars.specs.Parts.{part-slice}
-use Rattle.text_micrometres.specs.Contracts.{measuredOf}
-use Rattle.text_micrometres.specs.declared.Measured.{Measured}
-use Rattle.job_answers.specs.Answers.{jobOf, partOf, refused-part}
-use Rattle.job_answers.specs.declared.Found.{Found}
-use Rattle.job_resolved.specs.Contracts.{ResolveIs, CheckIs}
-use Rattle.job_resolved.specs.declared.Resolution.{Resolution}
-use Rattle.job_resolved.specs.declared.Verdict.{Verdict}
+use Rattle.text_lengths.specs.Micrometres.Contracts.{measuredOf}
+use Rattle.text_lengths.specs.declared.micrometres.Measured.{Measured}
+use Rattle.sheet_paths.specs.Answers.{jobOf, partOf, refused-part}
+use Rattle.sheet_paths.specs.declared.Found.{Found}
+use Rattle.job_results.specs.Contracts.{ResolveIs, CheckIs}
+use Rattle.job_results.specs.declared.Resolution.{Resolution}
+use Rattle.job_results.specs.declared.Verdict.{Verdict}
 use Rattle.job_demands.specs.Runs as runs
 use Rattle.job_demands.specs.Runs.{Hands}
 

@@ -38,12 +38,12 @@ use Rattle.theory.specs.Micrometres.{Exact}
 use Rattle.theory.specs.Demands as demands
 use Rattle.theory.specs.Promises as promises
 use Rattle.theory.specs.Promises.{OneOf, Refuses, PositionFor, FoundIn}
-use Rattle.job_resolved.specs.Answers.{resolvedTold, packedVerdict}
-use Rattle.job_resolved.specs.Unpacking as bits
-use Rattle.job_resolved.specs.Bits.{resolve-unpacks, check-unpacks}
-use Rattle.job_resolved.specs.Contracts.{PackedResolveIs}
-use Rattle.job_answers.specs.Answers.{packed}
-use Rattle.job_answers.specs.Unpacking as look
+use Rattle.job_results.specs.Answers.{resolvedTold, packedVerdict}
+use Rattle.job_results.specs.Unpacking as bits
+use Rattle.job_results.specs.Bits.{resolve-unpacks, check-unpacks}
+use Rattle.job_results.specs.Contracts.{PackedResolveIs}
+use Rattle.sheet_paths.specs.Answers.{packed}
+use Rattle.sheet_paths.specs.Unpacking as look
 use Rattle.job_look_up.specs.LookUpJob.{answer-unpacks}
 use Rattle.job_length.specs.Packed as lengths
 

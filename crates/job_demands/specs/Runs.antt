@@ -15,14 +15,14 @@ use Rattle.rules.specs.Jobs.{Resolved, Buffers, resolveJob, filled, buffersOf, 
 use Rattle.theory.specs.Jobs.{Approval, approval-inv, approval-is}
 use Rattle.theory.specs.BothJobs.{resolved-approval}
 use Rattle.theory.specs.Promises.{Refuses, look-up-part}
-use Rattle.job_answers.specs.Answers.{jobOf}
-use Rattle.job_answers.specs.declared.Found.{Found}
-use Rattle.job_resolved.specs.Answers.{Located, resolutionTold, locatedTold, resolvedTold, verdictOf}
-use Rattle.job_resolved.specs.Unpacking.{Roomy, refusal-some}
-use Rattle.job_resolved.specs.Bits.{resolve-roomy}
-use Rattle.job_resolved.specs.Contracts.{ResolveIs, CheckIs}
-use Rattle.job_resolved.specs.declared.Resolution.{Resolution}
-use Rattle.job_resolved.specs.declared.Verdict.{Verdict}
+use Rattle.sheet_paths.specs.Answers.{jobOf}
+use Rattle.sheet_paths.specs.declared.Found.{Found}
+use Rattle.job_results.specs.Answers.{Located, resolutionTold, locatedTold, resolvedTold, verdictOf}
+use Rattle.job_results.specs.Unpacking.{Roomy, refusal-some}
+use Rattle.job_results.specs.Bits.{resolve-roomy}
+use Rattle.job_results.specs.Contracts.{ResolveIs, CheckIs}
+use Rattle.job_results.specs.declared.Resolution.{Resolution}
+use Rattle.job_results.specs.declared.Verdict.{Verdict}
 
 -- A run that succeeded, and the sheet that it hands back: as many bytes of each buffer as its answer tells.
 pub record Hands (r : Resolution) (b c f trail table text : List ℕ) : Type 0 where

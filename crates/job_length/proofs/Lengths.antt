@@ -18,9 +18,9 @@ use Rattle.theory.specs.TableSteps.{RecordAt, plain-at, text-at, container-at, 
 use Rattle.theory.specs.Micrometres.{length-long, length-not-whole, length-whole}
 use Rattle.text_chars.specs.Cursor.{ByteIs}
 use Rattle.text_chars.specs.Parts.{part-slice}
-use Rattle.sheet_kinds.specs.Contracts.{PairIs}
-use Rattle.text_micrometres.specs.Contracts.{measuredOf, MeasuredIs}
-use Rattle.text_micrometres.specs.declared.Measured.{Measured}
+use Rattle.sheet_records.specs.Kinds.Contracts.{PairIs}
+use Rattle.text_lengths.specs.Micrometres.Contracts.{measuredOf, MeasuredIs}
+use Rattle.text_lengths.specs.declared.micrometres.Measured.{Measured}
 use Rattle.job_length.specs.Contracts.{WholeTable}
 use Rattle.job_length.specs.Packed.{packedLength}
 

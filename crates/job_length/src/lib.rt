@@ -3,14 +3,14 @@
 use codes::kinds;
 use codes::limits;
 use codes::refusals;
-use sheet_kinds::pair_at;
+use sheet_records::kinds::pair_at;
 use text_chars::RecAt;
 use text_chars::TextLen;
 use text_chars::record_byte;
-use text_micrometres::Measured;
+use text_lengths::micrometres::Measured;
 ghost use mathlib.Core.Path.{_≡_};
 ghost use Rattle.rules.specs.Jobs.{recordLength, lengthJob};
-ghost use Rattle.text_micrometres.specs.Contracts.{measuredOf};
+ghost use Rattle.text_lengths.specs.Micrometres.Contracts.{measuredOf};
 ghost use Rattle.job_length.specs.Contracts.{WholeTable};
 ghost use Rattle.job_length.specs.Packed.{packedLength};
 

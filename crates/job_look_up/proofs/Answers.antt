@@ -22,12 +22,12 @@ use Rattle.text_chars.specs.declared.DocAt.{DocAt}
 use Rattle.text_chars.specs.declared.RecAt.{RecAt}
 use Rattle.text_chars.specs.declared.RecLen.{RecLen}
 use Rattle.text_chars.specs.declared.Ill.{Ill}
-use Rattle.text_marks.specs.Holding.{Held}
+use Rattle.text_elements.specs.Marks.Holding.{Held}
 use Rattle.text_paths.specs.Texts.{PathIs, HeldTexts, readOf}
 use Rattle.text_paths.specs.declared.PathRead.{PathRead}
 use Rattle.sheet_paths.specs.Contracts.{PartNamedIs}
-use Rattle.job_answers.specs.Answers.{jobOf, partOf}
-use Rattle.job_answers.specs.declared.Found.{Found}
+use Rattle.sheet_paths.specs.Answers.{jobOf, partOf}
+use Rattle.sheet_paths.specs.declared.Found.{Found}
 use Rattle.job_look_up.specs.LookUpJob.{short-table}
 
 -- ---- the value that a path text names

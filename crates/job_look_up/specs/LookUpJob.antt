@@ -16,9 +16,9 @@ use Rattle.theory.specs.LookUpSteps.{look-up-long}
 use Rattle.theory.specs.LookUps.{Answered, part, refusal, look-up-answered, look-up-place}
 use Rattle.rules.specs.Refusals.{lookUpNumbers}
 use Rattle.text_chars.specs.declared.DocAt.{DocAt}
-use Rattle.job_answers.specs.Answers.{jobOf, Packable}
-use Rattle.job_answers.specs.Unpacking.{Roomy, Unpacks, unpacks, packable}
-use Rattle.job_answers.specs.declared.Found.{Found}
+use Rattle.sheet_paths.specs.Answers.{jobOf, Packable}
+use Rattle.sheet_paths.specs.Unpacking.{Roomy, Unpacks, unpacks, packable}
+use Rattle.sheet_paths.specs.declared.Found.{Found}
 
 -- every number of a look-up's refusals is one, and has room in six bits
 abbrev Under : List ℕ → Type 0

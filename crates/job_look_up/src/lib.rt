@@ -2,7 +2,7 @@
 // Computes: Jobs (lookUpJob)
 use codes::limits;
 use codes::refusals;
-use job_answers::Found;
+use sheet_paths::Found;
 use text_chars::DocAt;
 use text_chars::Ill;
 use text_chars::TextLen;
@@ -13,7 +13,7 @@ ghost use lib.ListN.{length};
 ghost use Rattle.rules.specs.Sizes.{maxRoom, maxPathText};
 ghost use Rattle.rules.specs.Paths.{pathText};
 ghost use Rattle.rules.specs.Jobs.{lookedUp, lookUpJob};
-ghost use Rattle.job_answers.specs.Answers.{jobOf, partOf};
+ghost use Rattle.sheet_paths.specs.Answers.{jobOf, partOf};
 
 // What the path of a path text names. It is read into buffers of this function's own.
 fn look_up_path(table: &[u8], text: &[u8], path: &[u8]) -> Found

@@ -22,9 +22,9 @@ use Rattle.rules_profile.specs.Profile.{limitsOf, firstEdition, secondEdition, 
 use Rattle.text_chars.specs.Cursor.{ByteIs}
 use Rattle.text_chars.specs.Parts.{part-slice}
 use Rattle.text_chars.specs.declared.RecAt.{RecAt}
-use Rattle.sheet_kinds.specs.Contracts.{PairIs, EndIs, nearRoom}
-use Rattle.sheet_kinds.specs.Ends.{none-is, some-is, between-is}
-use Rattle.sheet_kinds.specs.declared.End.{End}
+use Rattle.sheet_records.specs.Kinds.Contracts.{PairIs, EndIs, nearRoom}
+use Rattle.sheet_records.specs.Kinds.Ends.{none-is, some-is, between-is}
+use Rattle.sheet_records.specs.declared.kinds.End.{End}
 use Rattle.sheet_records.specs.Contracts.{pastMember}
 use Rattle.text_profiles.specs.Contracts.{maxLength, editionAs, lengthAs, LengthIs}
 use Rattle.text_profiles.specs.declared.Edition as code

@@ -1,19 +1,19 @@
 // The job resolve: the inputs are read, the document is resolved into the rooms of the lent buffers, and what is not used of them is zeroed.
 // Computes: Jobs (resolveJob, buffersOf)
 use codes::limits;
-use eval_order::Progress;
-use eval_order::Step;
 use eval_settle::settle_root;
-use job_buffers::finish;
-use job_resolved::Resolution;
-use job_rooms::budget_fits;
-use job_rooms::room_of;
+use eval_trail::Progress;
+use eval_trail::Step;
+use job_inputs::buffers::budget_fits;
+use job_inputs::buffers::finish;
+use job_inputs::buffers::room_of;
+use job_inputs::read_task;
+use job_results::Resolution;
 use job_root::hand_root;
-use job_tasks::read_task;
 use read_documents::Reading;
 use text_chars::RecAt;
 use text_chars::TextAt;
-ghost use Rattle.job_resolved.specs.Contracts.{ResolveIs};
+ghost use Rattle.job_results.specs.Contracts.{ResolveIs};
 ghost use Rattle.job_resolve_laws.specs.Contracts.{ResolutionAsked, ResolutionIs};
 
 // Resolves a document that was read into a job's memory: the root is settled, which lays the trail; then its value is evaluated once, and
@@ -33,7 +33,7 @@ fn resolution(
 {
     let mut stack = [0u16; eval_stack::WORK];
     let mut room = [0u8; limits::ROOM];
-    let mut list = [0u16; eval_turns::LIST];
+    let mut list = [0u16; eval_trail::turns::LIST];
     let start = Progress {
         used: RecAt(0),
         text: TextAt(0),

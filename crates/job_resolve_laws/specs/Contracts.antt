@@ -7,11 +7,11 @@ use Rattle.rules.specs.Sizes.{maxRoom}
 use Rattle.rules.specs.Documents.{Setting}
 use Rattle.theory_order.specs.Contracts.{Task}
 use Rattle.theory_order.specs.Whole.{resolvedOf}
-use Rattle.eval_records.specs.Contracts.{mostBytes}
+use Rattle.eval_writer.specs.Copies.Contracts.{mostBytes}
 use Rattle.eval_state.specs.Memories.{jobBytes}
-use Rattle.job_resolved.specs.declared.Resolution.{Resolution}
-use Rattle.job_tasks.specs.Contracts.{Ready}
-use Rattle.job_hand_back.specs.Contracts.{HandedBack}
+use Rattle.job_results.specs.declared.Resolution.{Resolution}
+use Rattle.job_inputs.specs.Contracts.{Ready}
+use Rattle.job_root.specs.Output.Contracts.{HandedBack}
 
 -- a document that was read, in its environment, as it stands in the job's memory; buffers no longer than their rooms
 pub record ResolutionAsked (T B environment : List ℕ) (budget : ℕ) (trail text : List ℕ) : Type 0 where

@@ -15,13 +15,13 @@ use Rattle.text_chars.specs.declared.DocAt.{DocAt}
 use Rattle.read_documents.specs.Contracts.{InputRefuses}
 use Rattle.read_documents.specs.declared.Reading.{Reading}
 use Rattle.eval_state.specs.Memories.{jobBytes}
-use Rattle.job_resolved.specs.Answers.{Told, resolutionTold, locatedTold}
-use Rattle.job_resolved.specs.Contracts.{ResolveIs}
-use Rattle.job_resolved.specs.declared.Resolution.{Resolution}
-use Rattle.job_buffers.specs.Contracts.{FinishedIs}
-use Rattle.job_buffers.specs.Filled.{Begins, finished-buffers}
-use Rattle.job_tasks.specs.Contracts.{TaskCase, TaskIs}
-use Rattle.job_hand_back.specs.Contracts.{HandedBack}
+use Rattle.job_results.specs.Answers.{Told, resolutionTold, locatedTold}
+use Rattle.job_results.specs.Contracts.{ResolveIs}
+use Rattle.job_results.specs.declared.Resolution.{Resolution}
+use Rattle.job_inputs.specs.Buffers.Contracts.{FinishedIs}
+use Rattle.job_inputs.specs.Buffers.Filled.{Begins, finished-buffers}
+use Rattle.job_inputs.specs.Contracts.{TaskCase, TaskIs}
+use Rattle.job_root.specs.Output.Contracts.{HandedBack}
 use Rattle.job_resolve_laws.specs.Contracts.{ResolutionAsked, ResolutionIs}
 
 -- ---- the room of a buffer is lent, and comes back

@@ -12,13 +12,13 @@ use Rattle.theory_order.specs.Whole.{root-refused}
 use Rattle.text_chars.specs.declared.DocAt.{DocAt}
 use Rattle.eval_writer.specs.Contracts.{Room}
 use Rattle.eval_stack.specs.Model.{workRoom}
-use Rattle.eval_order.specs.declared.Progress.{Progress}
-use Rattle.eval_order.specs.declared.Step.{Step}
-use Rattle.eval_questions.specs.Work.{RefusedAs}
+use Rattle.eval_trail.specs.declared.Progress.{Progress}
+use Rattle.eval_trail.specs.declared.Step.{Step}
+use Rattle.eval_question_laws.specs.Work.{RefusedAs}
 use Rattle.eval_settle_laws.specs.Contracts as settling
-use Rattle.job_resolved.specs.Answers.{resolutionTold}
-use Rattle.job_resolved.specs.declared.Resolution.{Resolution}
-use Rattle.job_hand_back.specs.Contracts.{HandedBack}
+use Rattle.job_results.specs.Answers.{resolutionTold}
+use Rattle.job_results.specs.declared.Resolution.{Resolution}
+use Rattle.job_root.specs.Output.Contracts.{HandedBack}
 use Rattle.job_root.specs.Contracts as root
 use Rattle.job_resolve_laws.specs.Contracts.{ResolutionAsked, ResolutionIs}
 use Rattle.job_resolve_laws.specs.Tasks.{start, task, task-nested, short, tasked, held-start}

@@ -20,16 +20,16 @@ use Rattle.rules.specs.Environment.{Variable, entriesOf}
 use Rattle.rules.specs.Documents.{Setting}
 use Rattle.theory.specs.Heights.{setting-height}
 use Rattle.theory_order.specs.Contracts.{Task, treeOf}
-use Rattle.read_listing.specs.Listing.{listed-as-read}
+use Rattle.read_laws.specs.Listing.{listed-as-read}
 use Rattle.eval_keys.specs.Columns.{keyText}
 use Rattle.eval_state.specs.State.{State}
-use Rattle.eval_weights.specs.Nodes.{PiecesBelow}
-use Rattle.eval_weights.specs.Weights.{mostWeight, root-below, pieces-below}
-use Rattle.eval_questions.specs.Contracts.{PiecesFit, Fits}
-use Rattle.eval_questions.specs.Work.{Tasked}
-use Rattle.eval_order.specs.Contracts.{Holding}
-use Rattle.eval_order.specs.declared.Progress.{Progress}
-use Rattle.eval_need_laws.specs.Ground.{settlingRoom}
+use Rattle.eval_frames.specs.Nodes.{PiecesBelow}
+use Rattle.eval_frames.specs.Weights.{mostWeight, root-below, pieces-below}
+use Rattle.eval_question_laws.specs.Contracts.{PiecesFit, Fits}
+use Rattle.eval_question_laws.specs.Work.{Tasked}
+use Rattle.eval_trail.specs.Contracts.{Holding}
+use Rattle.eval_trail.specs.declared.Progress.{Progress}
+use Rattle.eval_settle_laws.specs.Ground.{settlingRoom}
 use Rattle.job_resolve_laws.specs.Contracts.{ResolutionAsked, taskOf}
 
 -- a longer environment is against its rule

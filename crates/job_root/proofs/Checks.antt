@@ -18,13 +18,13 @@ use Rattle.theory_check.specs.Steps.{CheckAt, root-needs}
 use Rattle.sheet_kept.specs.Kept.{Held, named}
 use Rattle.eval_writer.specs.Contracts.{Room}
 use Rattle.eval_writer.specs.Composition.{start}
-use Rattle.eval_extents.specs.Contracts.{far}
-use Rattle.eval_extents.specs.Came.{Came, came-in-room}
-use Rattle.eval_extents.specs.declared.Extent.{Extent}
+use Rattle.eval_results.specs.Extents.Contracts.{far}
+use Rattle.eval_results.specs.Extents.Came.{Came, came-in-room}
+use Rattle.eval_results.specs.declared.extents.Extent.{Extent}
 use Rattle.eval_state.specs.State.{State}
-use Rattle.eval_weights.specs.Weights.{root-below}
-use Rattle.eval_worked.specs.declared.Worked.{Worked}
-use Rattle.check_tables.specs.Contracts.{Evaluated, TableAsked, TableIs}
+use Rattle.eval_frames.specs.Weights.{root-below}
+use Rattle.eval_results.specs.declared.values.Worked.{Worked}
+use Rattle.check_entries.specs.Tables.Contracts.{Evaluated, TableAsked, TableIs}
 use Rattle.job_root.specs.Contracts.{RootAsked, RootCase, RootIs, CheckRootAsked, CheckRootIs}
 
 -- a counter that ends at a bound far behind a limit keeps to the limit exactly where the number does

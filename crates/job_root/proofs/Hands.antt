@@ -16,12 +16,12 @@ use Rattle.theory.specs.SettledAnswers.{run-root-of}
 use Rattle.theory_order.specs.Contracts.{Task, treeOf, KeptOf}
 use Rattle.theory_order.specs.Whole.{resolvedOf, root-answered}
 use Rattle.sheet_kept.specs.Kept.{named}
-use Rattle.eval_extents.specs.declared.Extent.{Extent}
-use Rattle.eval_worked.specs.declared.Worked.{Worked}
-use Rattle.eval_weights.specs.Weights.{root-below}
-use Rattle.eval_order.specs.declared.Progress.{Progress}
-use Rattle.job_resolved.specs.declared.Resolution.{Resolution}
-use Rattle.job_hand_back.specs.Contracts.{HandAsked, HandedBack, HandIs}
+use Rattle.eval_results.specs.declared.extents.Extent.{Extent}
+use Rattle.eval_results.specs.declared.values.Worked.{Worked}
+use Rattle.eval_frames.specs.Weights.{root-below}
+use Rattle.eval_trail.specs.declared.Progress.{Progress}
+use Rattle.job_results.specs.declared.Resolution.{Resolution}
+use Rattle.job_root.specs.Output.Contracts.{HandAsked, HandedBack, HandIs}
 use Rattle.job_root.specs.Contracts.{RootAsked, RootCase, RootIs, HandRootAsked, Settled, HandRootIs}
 
 -- the root's value, and what the job hands back

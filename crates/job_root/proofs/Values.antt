@@ -19,10 +19,10 @@ use Rattle.doc_items.specs.Room.{textRoom, sheetAt, trailAt}
 use Rattle.eval_writer.specs.Composition.{start}
 use Rattle.eval_writer.specs.declared.Source.{Source}
 use Rattle.eval_stack.specs.Model.{entries}
-use Rattle.eval_tables.specs.Keys.{KeyNumber}
-use Rattle.eval_tables.specs.Tables.{WrittenAt}
-use Rattle.eval_worked.specs.Comes.{ComesBy}
-use Rattle.eval_worked.specs.declared.Worked.{Worked}
+use Rattle.eval_memory.specs.Keys.{KeyNumber}
+use Rattle.eval_memory.specs.Tables.{WrittenAt}
+use Rattle.eval_results.specs.Values.Comes.{ComesBy}
+use Rattle.eval_results.specs.declared.values.Worked.{Worked}
 use Rattle.eval_state.specs.Memories.{answersOf}
 use Rattle.eval_state.specs.Documents.{root-written}
 use Rattle.eval_state.specs.State.{state-tables}

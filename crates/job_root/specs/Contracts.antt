@@ -24,20 +24,20 @@ use Rattle.theory_order.specs.Whole.{resolvedOf}
 use Rattle.sheet_kept.specs.Kept.{Held, named}
 use Rattle.eval_writer.specs.Contracts.{Room}
 use Rattle.eval_writer.specs.Composition.{start}
-use Rattle.eval_records.specs.Contracts.{mostBytes}
-use Rattle.eval_extents.specs.Came.{Came}
-use Rattle.eval_extents.specs.declared.Extent.{Extent}
+use Rattle.eval_writer.specs.Copies.Contracts.{mostBytes}
+use Rattle.eval_results.specs.Extents.Came.{Came}
+use Rattle.eval_results.specs.declared.extents.Extent.{Extent}
 use Rattle.eval_stack.specs.Model.{entries, Work}
-use Rattle.eval_tables.specs.Keys.{KeyNumber, EachKey}
-use Rattle.eval_worked.specs.Contracts.{WorkedWithin}
-use Rattle.eval_worked.specs.declared.Worked.{Worked}
+use Rattle.eval_memory.specs.Keys.{KeyNumber, EachKey}
+use Rattle.eval_results.specs.Values.Contracts.{WorkedWithin}
+use Rattle.eval_results.specs.declared.values.Worked.{Worked}
 use Rattle.eval_state.specs.Memories.{jobBytes}
 use Rattle.eval_state.specs.State.{State}
 use Rattle.eval_value_laws.specs.Contracts.{Left}
-use Rattle.eval_order.specs.Contracts.{Holding}
-use Rattle.eval_order.specs.declared.Progress.{Progress}
-use Rattle.job_resolved.specs.declared.Resolution.{Resolution}
-use Rattle.job_hand_back.specs.Contracts.{HandedBack}
+use Rattle.eval_trail.specs.Contracts.{Holding}
+use Rattle.eval_trail.specs.declared.Progress.{Progress}
+use Rattle.job_results.specs.declared.Resolution.{Resolution}
+use Rattle.job_root.specs.Output.Contracts.{HandedBack}
 
 -- ---- its value
 

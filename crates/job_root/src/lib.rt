@@ -1,16 +1,19 @@
 // The root's value against the answers so far, and what the jobs do with it: check holds it against the lent table, and resolve, whose root is
 // settled then, hands it back.
 // Computes: Unresolved (rootValue), Checking (tableAccepted), Jobs (resolved)
-use check_tables::check_table;
+
+pub mod output;
+
+use crate::output::hand_back;
+use check_entries::tables::check_table;
 use codes::refusals;
-use eval_objects::node_value;
-use eval_order::Progress;
+use eval_results::values::Worked;
+use eval_trail::Progress;
 use eval_values::LEVELS;
-use eval_worked::Worked;
+use eval_values::objects::node_value;
 use eval_writer::Out;
 use eval_writer::Source;
-use job_hand_back::hand_back;
-use job_resolved::Resolution;
+use job_results::Resolution;
 use text_chars::DocAt;
 use text_chars::RecAt;
 use text_chars::TextAt;

@@ -14,8 +14,8 @@ use Rattle.read_grammar.specs.Decisions.{Turns, TurnIs}
 use Rattle.read_grammar.specs.declared.Turn.{Turn}
 use Rattle.text_chars.specs.Parts.{part, back, back-length}
 use Rattle.doc_items.specs.Parts.{numbers, letters}
-use Rattle.read_pieces.specs.Pieces.{Refuses}
-use Rattle.read_pieces.specs.declared.Listed.{Listed}
+use Rattle.read_values.specs.Pieces.Pieces.{Refuses}
+use Rattle.read_values.specs.declared.pieces.Listed.{Listed}
 use Rattle.read_cycle.specs.Contracts.{Asked, Reached, partedAfter}
 use Rattle.read_cycle.specs.Measures.{need}
 use Rattle.read_cycle.proofs.Members as M

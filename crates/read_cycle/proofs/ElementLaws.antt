@@ -12,11 +12,11 @@ use Rattle.text_chars.specs.declared.TextLen.{TextLen}
 use Rattle.text_chars.specs.declared.Cursor.{Cursor}
 use Rattle.text_chars.specs.Parts.{part, back, part-length, back-length}
 use Rattle.doc_items.specs.Writing.{ItemIs}
-use Rattle.read_limits.specs.Limits.{nestingOf, ExcessNumberIs}
-use Rattle.read_pieces.specs.Pieces.{Behind, AfterMemberIs}
+use Rattle.read_grammar.specs.Limits.Limits.{nestingOf, ExcessNumberIs}
+use Rattle.read_values.specs.Pieces.Pieces.{Behind, AfterMemberIs}
 use Rattle.read_steps.specs.Steps.{elementItem, Listable, FinishElementAsked, Lists, FinishElementIs}
-use Rattle.read_pieces.specs.declared.Listed.{Listed}
-use Rattle.read_pieces.specs.declared.Valued.{Valued}
+use Rattle.read_values.specs.declared.pieces.Listed.{Listed}
+use Rattle.read_values.specs.declared.pieces.Valued.{Valued}
 use Rattle.read_cycle.specs.Contracts.{Asked, Value, ValueIs, AnElement, ElementIs}
 use Rattle.read_cycle.specs.Measures.{need}
 use Rattle.read_cycle.proofs.Parting.{parted-got, parted-fail, parted-rejected, element-by, element-held}

@@ -10,8 +10,8 @@ use Rattle.text_chars.specs.declared.DocAt.{DocAt}
 use Rattle.text_chars.specs.declared.Cursor.{Cursor}
 use Rattle.read_keys.specs.Keys.{KeyAsked, Keys, KeyIs}
 use Rattle.read_keys.specs.declared.KeyRead.{KeyRead}
-use Rattle.read_limits.specs.Limits.{nestingOf}
-use Rattle.read_pieces.specs.declared.Listed.{Listed}
+use Rattle.read_grammar.specs.Limits.Limits.{nestingOf}
+use Rattle.read_values.specs.declared.pieces.Listed.{Listed}
 use Rattle.read_cycle.specs.Contracts.{Asked, partedAfter, AField, FieldIs, FieldValueAsked, valued, Keyed, FieldValueIs}
 use Rattle.read_cycle.specs.Measures.{need}
 use Rattle.read_cycle.proofs.Parting.{parted-rejected}

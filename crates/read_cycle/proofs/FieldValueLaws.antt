@@ -14,12 +14,12 @@ use Rattle.text_chars.specs.declared.TextLen.{TextLen}
 use Rattle.text_chars.specs.declared.Cursor.{Cursor}
 use Rattle.text_chars.specs.Parts.{part, back, part-length, back-length}
 use Rattle.doc_items.specs.Keys.{HeldKeys, keySizes}
-use Rattle.read_fields.specs.Keys.{PutIs}
-use Rattle.read_limits.specs.Limits.{nestingOf}
-use Rattle.read_pieces.specs.Pieces.{Behind, AfterMemberIs}
+use Rattle.read_values.specs.Fields.Keys.{PutIs}
+use Rattle.read_grammar.specs.Limits.Limits.{nestingOf}
+use Rattle.read_values.specs.Pieces.Pieces.{Behind, AfterMemberIs}
 use Rattle.read_steps.specs.Steps.{Nameable, FinishFieldAsked, Named, FinishFieldIs}
-use Rattle.read_pieces.specs.declared.Listed.{Listed}
-use Rattle.read_pieces.specs.declared.Valued.{Valued}
+use Rattle.read_values.specs.declared.pieces.Listed.{Listed}
+use Rattle.read_values.specs.declared.pieces.Valued.{Valued}
 use Rattle.read_cycle.specs.Contracts.{Asked, Value, ValueIs, FieldValueAsked, valued, Keyed, FieldValueIs}
 use Rattle.read_cycle.specs.Measures.{need}
 use Rattle.read_cycle.proofs.Parting.{parted-got, parted-fail, parted-rejected, field-held}

@@ -7,8 +7,8 @@ use Rattle.rules.specs.Refusals.{got, readThen}
 use Rattle.rules.specs.Tree.{Fields}
 use Rattle.rules.specs.Reading.{FieldRead, fieldsOf, fieldAt, objectAt, valueIn}
 use Rattle.theory.specs.ValueSteps.{field-forward}
-use Rattle.read_limits.specs.Limits.{nestingOf}
-use Rattle.read_pieces.specs.declared.Listed.{Listed}
+use Rattle.read_grammar.specs.Limits.Limits.{nestingOf}
+use Rattle.read_values.specs.declared.pieces.Listed.{Listed}
 use Rattle.read_cycle.specs.Contracts.{Object, AField, ObjectIs, FieldIs}
 use Rattle.read_cycle.proofs.Members as M
 use Rattle.read_cycle.proofs.Lists.{fieldsHeld, one-field}

@@ -20,8 +20,8 @@ use Rattle.doc_items.specs.Parts.{numbers, letters, agree-back, grown-back}
 use Rattle.doc_items.specs.Keys.{HeldKeys, keySizes}
 use Rattle.doc_items.specs.Writing.{ItemIs}
 use Rattle.doc_items.specs.declared.Item.{Item}
-use Rattle.read_fields.specs.Keys.{PutIs}
-use Rattle.read_fields.specs.Chains.{put-holds}
+use Rattle.read_values.specs.Fields.Keys.{PutIs}
+use Rattle.read_values.specs.Fields.Chains.{put-holds}
 use Rattle.read_cycle.specs.Contracts.{Free, partedAfter}
 
 -- ---- what parts a member from the next

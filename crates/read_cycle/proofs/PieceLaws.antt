@@ -14,13 +14,13 @@ use Rattle.text_chars.specs.declared.DocAt.{DocAt}
 use Rattle.text_chars.specs.declared.Cursor.{Cursor}
 use Rattle.text_chars.specs.Parts.{part, back, part-length, back-length}
 use Rattle.read_grammar.specs.Decisions.{closes}
-use Rattle.read_limits.specs.Limits.{Begins, PieceStartIs}
-use Rattle.read_pieces.specs.Pieces.{Nested, ContainerPieceIs}
+use Rattle.read_grammar.specs.Limits.Limits.{Begins, PieceStartIs}
+use Rattle.read_values.specs.Pieces.Pieces.{Nested, ContainerPieceIs}
 use Rattle.read_steps.specs.Steps.{ScalarPieceAsked, Plain, ScalarPieceIs}
 use Rattle.read_references.specs.ReferencePieces.{ReferencePieceAsked, Linked, ReferencePieceIs}
-use Rattle.read_limits.specs.declared.Beginning.{Beginning}
-use Rattle.read_pieces.specs.declared.Listed.{Listed}
-use Rattle.read_pieces.specs.declared.PieceRead.{PieceRead}
+use Rattle.read_grammar.specs.declared.limits.Beginning.{Beginning}
+use Rattle.read_values.specs.declared.pieces.Listed.{Listed}
+use Rattle.read_values.specs.declared.pieces.PieceRead.{PieceRead}
 use Rattle.read_cycle.specs.Contracts.{Asked, Array, Object, ArrayIs, ObjectIs, PieceAsked, Pieced, PieceIs}
 use Rattle.read_cycle.specs.Measures.{need}
 use Rattle.read_cycle.proofs.Piecing.{scalar-refused, scalar-found, dollar-refused, dollar-found, brace-refused, brace-found, bracket-refused, bracket-found}

@@ -24,8 +24,8 @@ use Rattle.text_chars.specs.Parts.{back}
 use Rattle.doc_items.specs.Parts.{numbers, letters, grown-back, spells-take}
 use Rattle.read_values.specs.Runs.{KindIs}
 use Rattle.read_cycle.specs.Contracts.{Free, Reached, PieceAsked, PartAt, FoundIs}
-use Rattle.read_limits.specs.Limits.{nestingOf}
-use Rattle.read_pieces.specs.declared.PieceItem.{PieceItem}
+use Rattle.read_grammar.specs.Limits.Limits.{nestingOf}
+use Rattle.read_values.specs.declared.pieces.PieceItem.{PieceItem}
 
 -- a counted piece is the piece behind one item more
 pub counted-is : {A : Type 0} (items at : ℕ) (k : ℕ → Read A) → items < maxItems → countItem items at k ≡ k (items + 1)

@@ -6,11 +6,11 @@ use native.Mathlib.Omega.{arith}
 use lib.ListN.{length}
 use Rattle.text_chars.specs.Parts.{part, back, part-length, back-length}
 use Rattle.read_values.specs.declared.Run.{Run}
-use Rattle.read_pieces.specs.Pieces.{More, AddPieceIs}
+use Rattle.read_values.specs.Pieces.Pieces.{More, AddPieceIs}
 use Rattle.read_steps.specs.Steps.{PutPieceIs, Placeable, FinishPieceAsked, Placed, FinishPieceIs}
-use Rattle.read_pieces.specs.declared.PieceItem.{PieceItem}
-use Rattle.read_pieces.specs.declared.PieceRead.{PieceRead}
-use Rattle.read_pieces.specs.declared.ValueStep.{ValueStep}
+use Rattle.read_values.specs.declared.pieces.PieceItem.{PieceItem}
+use Rattle.read_values.specs.declared.pieces.PieceRead.{PieceRead}
+use Rattle.read_values.specs.declared.pieces.ValueStep.{ValueStep}
 use Rattle.read_cycle.specs.Contracts.{PieceAsked, FoundIs, Pieced, PieceIs, StepAsked, Stepped, StepIs}
 use Rattle.read_cycle.specs.Measures.{need}
 use Rattle.read_cycle.proofs.Stepping.{more-read}

@@ -18,7 +18,7 @@ use Rattle.read_values.specs.Runs.{KindIs, AddIs}
 use Rattle.read_values.specs.declared.Run.{Run}
 use Rattle.read_cycle.specs.Contracts.{Free, StepAsked, Follows, MoreRead, PartAt, FoundIs}
 use Rattle.read_steps.specs.Steps.{PutPieceIs}
-use Rattle.read_pieces.specs.declared.PieceItem.{PieceItem}
+use Rattle.read_values.specs.declared.pieces.PieceItem.{PieceItem}
 
 code-small : (x : Scalar) → codeOf x ≤ 5
 code-small null = omega arith

@@ -22,10 +22,10 @@ use Rattle.doc_items.specs.Moving.{move-spells, move-pieces}
 use Rattle.text_chars.specs.Parts.{part, back, part-length, back-length, back-below}
 use Rattle.doc_items.specs.Parts.{numbers, agree-kept, grown-kept}
 use Rattle.read_values.specs.declared.Run.{Run}
-use Rattle.read_limits.specs.Limits.{nestingOf}
-use Rattle.read_pieces.specs.Pieces.{Refuses, FinishValueAsked, Finished, FinishIs}
-use Rattle.read_pieces.specs.declared.Valued.{Valued}
-use Rattle.read_pieces.specs.declared.ValueStep.{ValueStep}
+use Rattle.read_grammar.specs.Limits.Limits.{nestingOf}
+use Rattle.read_values.specs.Pieces.Pieces.{Refuses, FinishValueAsked, Finished, FinishIs}
+use Rattle.read_values.specs.declared.pieces.Valued.{Valued}
+use Rattle.read_values.specs.declared.pieces.ValueStep.{ValueStep}
 use Rattle.read_cycle.specs.Contracts.{Free, Asked, Value, ValueIs, StepAsked, Stepped, MoreRead, StepIs}
 use Rattle.read_cycle.specs.Measures.{need}
 use Rattle.read_cycle.proofs.Pieces as P

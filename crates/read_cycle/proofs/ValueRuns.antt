@@ -29,7 +29,7 @@ use Rattle.read_values.specs.Runs.{KindIs, pieceCount, RunOf, Comes, start-run}
 use Rattle.read_values.specs.Shows.{shown-of, text-join, subs-join, unlike-join}
 use Rattle.read_values.specs.declared.Run.{Run}
 use Rattle.read_cycle.specs.Contracts.{Free, Asked, Reached, Follows, MoreRead}
-use Rattle.read_limits.specs.Limits.{nestingOf}
+use Rattle.read_grammar.specs.Limits.Limits.{nestingOf}
 use Rattle.read_cycle.proofs.Pieces as P
 
 pub record ValueInv (s : List ℕ) (at₀ left items₀ : ℕ) (table₀ text₀ : List ℕ) (at from items used : ℕ) (run : Run) (table text : List ℕ) : Type 0 where

@@ -19,13 +19,13 @@ use Rattle.doc_items.specs.Parts.{numbers, letters}
 use Rattle.doc_items.specs.Keys.{HeldKeys, keySizes}
 use Rattle.read_values.specs.Runs.{KindIs, AddIs}
 use Rattle.read_values.specs.declared.Run.{Run}
-use Rattle.read_limits.specs.Limits.{nestingOf}
-use Rattle.read_pieces.specs.Pieces.{Refuses}
-use Rattle.read_pieces.specs.declared.Listed.{Listed}
-use Rattle.read_pieces.specs.declared.Valued.{Valued}
-use Rattle.read_pieces.specs.declared.PieceItem.{PieceItem}
-use Rattle.read_pieces.specs.declared.PieceRead.{PieceRead}
-use Rattle.read_pieces.specs.declared.ValueStep.{ValueStep}
+use Rattle.read_grammar.specs.Limits.Limits.{nestingOf}
+use Rattle.read_values.specs.Pieces.Pieces.{Refuses}
+use Rattle.read_values.specs.declared.pieces.Listed.{Listed}
+use Rattle.read_values.specs.declared.pieces.Valued.{Valued}
+use Rattle.read_values.specs.declared.pieces.PieceItem.{PieceItem}
+use Rattle.read_values.specs.declared.pieces.PieceRead.{PieceRead}
+use Rattle.read_values.specs.declared.pieces.ValueStep.{ValueStep}
 
 -- how many nestings may still be opened inside the root's
 abbrev pub nestingInRoot : ℕ

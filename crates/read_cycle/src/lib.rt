@@ -8,13 +8,13 @@ use codes::limits;
 use codes::refusals;
 use doc_items::WIDTH;
 use read_grammar::Turn;
+use read_grammar::limits::Beginning;
 use read_keys::KeyRead;
-use read_limits::Beginning;
-use read_pieces::Listed;
-use read_pieces::PieceRead;
-use read_pieces::ValueStep;
-use read_pieces::Valued;
 use read_values::Run;
+use read_values::pieces::Listed;
+use read_values::pieces::PieceRead;
+use read_values::pieces::ValueStep;
+use read_values::pieces::Valued;
 use text_chars::Cursor;
 use text_chars::DocAt;
 use text_chars::TextAt;
@@ -137,7 +137,7 @@ fn element(
     let place = c.at;
     if items == doc_items::MAX_ITEMS {
         return Listed::Refused {
-            number: read_limits::excess_number(s, c),
+            number: read_grammar::limits::excess_number(s, c),
             place,
         };
     }
@@ -252,7 +252,14 @@ fn value(
             &mut text[v..],
         ) {
             ValueStep::End => {
-                return read_pieces::finish_value(s, at, run, n, TextAt(start), TextAt(used));
+                return read_values::pieces::finish_value(
+                    s,
+                    at,
+                    run,
+                    n,
+                    TextAt(start),
+                    TextAt(used),
+                );
             }
             ValueStep::Refused { number, place } => {
                 return Valued::Refused { number, place };
@@ -319,7 +326,7 @@ fn piece(
     ensures { λ r. ⌜ PieceIs (now (s .entry)) (c .at .0) (w .0) left items
         (now (table .entry)) (now (text .entry)) (now (table .exit)) (now (text .exit)) r ⌝ }
 {
-    match read_limits::piece_start(s, c, left, items) {
+    match read_grammar::limits::piece_start(s, c, left, items) {
         Beginning::Nothing => PieceRead::End,
         Beginning::Refused { number, place } => PieceRead::Refused { number, place },
         Beginning::Scalar => read_steps::scalar_piece(s, c, w, items, text),
@@ -336,13 +343,13 @@ fn piece(
                 table,
                 &mut text[v..],
             );
-            read_pieces::container_piece(r, doc_items::OBJECT)
+            read_values::pieces::container_piece(r, doc_items::OBJECT)
         }
         Beginning::Array(next) => {
             let d = next.at;
             let v = 2 * d.0 - w.0;
             let r = array(s, next, left - 1, items + 1, table, &mut text[v..]);
-            read_pieces::container_piece(r, doc_items::ARRAY)
+            read_values::pieces::container_piece(r, doc_items::ARRAY)
         }
     }
 }

@@ -16,11 +16,11 @@ use Rattle.doc_items.specs.Moving.{move-fields, move-elements}
 use Rattle.text_chars.specs.Parts.{part, back, part-length, back-length}
 use Rattle.doc_items.specs.Parts.{numbers, letters, agree-back, grown-back}
 use Rattle.read_cycle.specs.Contracts.{Free, Asked, Array, Object, ArrayIs, ObjectIs}
-use Rattle.read_limits.specs.Limits.{nestingOf}
-use Rattle.read_pieces.specs.declared.Listed.{Listed}
+use Rattle.read_grammar.specs.Limits.Limits.{nestingOf}
+use Rattle.read_values.specs.declared.pieces.Listed.{Listed}
 use Rattle.read_grammar.specs.Decisions.{closes}
-use Rattle.read_roots.specs.Contracts.{fieldsFrom, elementsFrom, Opens, OpeningIs}
-use Rattle.read_roots.specs.declared.Opening.{Opening}
+use Rattle.read_grammar.specs.Roots.Contracts.{fieldsFrom, elementsFrom, Opens, OpeningIs}
+use Rattle.read_grammar.specs.declared.roots.Opening.{Opening}
 use Rattle.read_documents.specs.Trees.{Outline, Ends, PutRootAsked, PutRootIs, ScratchAsked, RootIs}
 
 module _ {s : List ℕ} {at left items : ℕ} {table text : List ℕ} (a : ScratchAsked s at left items table text) where

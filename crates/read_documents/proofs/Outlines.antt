@@ -13,16 +13,16 @@ use Rattle.rules.specs.Tree.{Root, rootNode}
 use Rattle.rules.specs.Reading.{rootAt, readRoot}
 use Rattle.text_chars.specs.declared.DocAt.{DocAt}
 use Rattle.text_chars.specs.declared.Cursor.{Cursor}
-use Rattle.read_roots.specs.Contracts.{EndingIs, Ends as EndsAs}
-use Rattle.read_roots.specs.declared.Ending.{Ending}
+use Rattle.read_grammar.specs.Roots.Contracts.{EndingIs, Ends as EndsAs}
+use Rattle.read_grammar.specs.declared.roots.Ending.{Ending}
 use Rattle.doc_items.specs.Holds.{Shown, NodeAt}
 use Rattle.doc_items.specs.Moving.{Grown, move-shown}
 use Rattle.doc_items.specs.Parts.{numbers, letters}
 use Rattle.doc_items.specs.Writing.{ItemAsked, ItemIs}
 use Rattle.doc_items.specs.declared.Item.{Item}
 use Rattle.read_cycle.specs.Contracts.{Free}
-use Rattle.read_limits.specs.Limits.{nestingOf}
-use Rattle.read_pieces.specs.declared.Listed.{Listed}
+use Rattle.read_grammar.specs.Limits.Limits.{nestingOf}
+use Rattle.read_values.specs.declared.pieces.Listed.{Listed}
 use Rattle.read_documents.specs.Trees.{Outline, Ends, PutRootAsked, PutRootIs}
 
 -- ---- the rules' root

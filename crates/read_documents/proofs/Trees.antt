@@ -12,8 +12,8 @@ use Rattle.text_chars.specs.Cursor.{illAt, doc}
 use Rattle.text_chars.specs.declared.DocAt.{DocAt}
 use Rattle.text_chars.specs.declared.Cursor.{Cursor}
 use Rattle.text_chars.specs.declared.Ill.{Ill}
-use Rattle.read_limits.specs.Limits.{nestingOf}
-use Rattle.read_pieces.specs.declared.Listed.{Listed}
+use Rattle.read_grammar.specs.Limits.Limits.{nestingOf}
+use Rattle.read_values.specs.declared.pieces.Listed.{Listed}
 use Rattle.read_documents.specs.Trees.{Rooted, RootIs, treeTold, readTold, TreeAs, TreeIs}
 use Rattle.read_documents.specs.declared.Counters.{Counters}
 use Rattle.read_documents.specs.declared.Tree.{Tree}

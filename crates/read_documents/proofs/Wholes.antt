@@ -16,7 +16,7 @@ use Rattle.rules.specs.Documents.{Document, valid, refused, limited, ofRoot, re
 use Rattle.theory.specs.FirstBytes.{first-byte-order}
 use Rattle.text_chars.specs.Cursor.{doc}
 use Rattle.text_chars.specs.declared.DocAt.{DocAt}
-use Rattle.read_bounds.specs.Contracts.{FitsIs}
+use Rattle.read_documents.specs.Bounds.{FitsIs}
 use Rattle.doc_items.specs.Parts.{letters}
 use Rattle.read_numbering.specs.Contracts.{CountIs, WithNumbers, NumberIs}
 use Rattle.read_numbering.specs.Reading.{as-read}

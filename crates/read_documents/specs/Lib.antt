@@ -1,3 +1,4 @@
 pub mod Contracts
 pub mod One
 pub mod Trees
+pub mod Bounds

@@ -13,9 +13,9 @@ use Rattle.doc_items.specs.Codes.{width, unresolvedItem}
 use Rattle.doc_items.specs.Holds.{NodeAt, Shown}
 use Rattle.doc_items.specs.Parts.{numbers, letters}
 use Rattle.read_cycle.specs.Contracts.{nestingInRoot, Free}
-use Rattle.read_limits.specs.Limits.{nestingOf}
-use Rattle.read_pieces.specs.Pieces.{Refuses}
-use Rattle.read_pieces.specs.declared.Listed.{Listed}
+use Rattle.read_grammar.specs.Limits.Limits.{nestingOf}
+use Rattle.read_values.specs.Pieces.Pieces.{Refuses}
+use Rattle.read_values.specs.declared.pieces.Listed.{Listed}
 use Rattle.read_documents.specs.declared.Counters.{Counters}
 use Rattle.read_documents.specs.declared.Tree.{Tree}
 

@@ -1,15 +1,15 @@
 // The whole reading of a document: its bytes, its root with all items, then the numbers of its unresolved values; and of the inputs that a
 // job is given.
-//
-// Computes: Documents (readTree, readDocument, inputs), Reading (readRoot).
+// Whether the inputs of a job keep their bounds.
+// Computes: Documents (readTree, readDocument, inputs), Reading (readRoot)
 use codes::limits;
 use codes::refusals;
 use doc_items::Item;
 use doc_items::WIDTH;
+use read_grammar::roots::Ending;
+use read_grammar::roots::Opening;
 use read_numbering::Count;
-use read_pieces::Listed;
-use read_roots::Ending;
-use read_roots::Opening;
+use read_values::pieces::Listed;
 use text_chars::DocAt;
 use text_chars::Ill;
 use text_chars::TextAt;
@@ -21,6 +21,7 @@ ghost use Rattle.doc_items.specs.Room.{tableRoom, textRoom};
 ghost use Rattle.rules.specs.Sizes.{maxItems};
 ghost use Rattle.read_documents.specs.Trees.{PutRootAsked, PutRootIs, ScratchAsked, RootIs, TreeIs};
 ghost use Rattle.read_documents.specs.Contracts.{NumberTreeIs, DocumentAsked, DocumentIs, InputsIs};
+ghost use Rattle.read_documents.specs.Bounds.{FitsIs};
 
 // ---- the tree
 
@@ -47,7 +48,7 @@ fn put_root(s: &[u8], r: Listed, kind: usize, items: usize, table: &mut [u16]) -
 {
     match r {
         Listed::Refused { number, place } => Listed::Refused { number, place },
-        Listed::Done { next, items: n } => match read_roots::ending_of(s, next) {
+        Listed::Done { next, items: n } => match read_grammar::roots::ending_of(s, next) {
             Ending::Trailing(place) => Listed::Refused {
                 number: refusals::BYTE_NOT_ALLOWED,
                 place,
@@ -79,7 +80,7 @@ fn root(s: &[u8], left: usize, items: usize, table: &mut [u16], text: &mut [u8])
     ensures { λ q. ⌜ RootIs (now (s .entry)) left items
         (now (table .entry)) (now (text .entry)) (now (table .exit)) (now (text .exit)) q ⌝ }
 {
-    match read_roots::opening_of(s) {
+    match read_grammar::roots::opening_of(s) {
         Opening::Object { next, closing } => {
             let d = next.at;
             let v = 2 * d.0;
@@ -183,11 +184,24 @@ pub fn read_inputs(
     ensures { λ r. ⌜ InputsIs «others_fit» (now (document .entry)) (now (environment .entry))
         (now (table .entry)) (now (text .entry)) (now (table .exit)) (now (text .exit)) r ⌝ }
 {
-    if read_bounds::fits(others_fit, document, environment) {
+    if fits(others_fit, document, environment) {
         return read_document(document, table, text);
     }
     Reading::Refused {
         number: refusals::BAD_INPUT,
         place: DocAt(0),
     }
+}
+
+/// Whether a job's other inputs fit, its document is not too long and its environment is by its rule. They are looked at in this order.
+pub fn fits(others_fit: bool, document: &[u8], environment: &[u8]) -> bool
+    ensures { λ r. ⌜ FitsIs «others_fit» (now (document .entry)) (now (environment .entry)) r ⌝ }
+{
+    if others_fit {
+        if limits::DOCUMENT < document.len() {
+            return false;
+        }
+        return text_environment::is_valid(environment);
+    }
+    false
 }

@@ -1,1 +1,3 @@
 pub mod Decisions
+pub mod Limits
+pub mod Roots

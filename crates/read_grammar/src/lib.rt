@@ -1,8 +1,15 @@
 // Decisions of the grammar that look at a place of a document and write nothing: what begins there, what parts two members of a container,
 // and where a value stands behind its key.
 // Computes: Reading (`startOf`, `parted`, `valuePlace`), Paths (`startsInclude`), Refusals (`notAllowed`)
+
+pub mod limits;
+pub mod roots;
+
 use codes::bytes;
 use codes::refusals;
+use text_chars::Cursor;
+use text_chars::DocAt;
+use text_unquoted::Letters;
 ghost use mathlib.Core.Path.{_≡_};
 ghost use mathlib.Core.Bool.{true};
 ghost use Prim.Native.Nat.{_+_, _≤_, _<_};
@@ -14,9 +21,6 @@ ghost use Rattle.rules.specs.Paths.{startsInclude};
 ghost use Rattle.rules.specs.Reading as rules;
 ghost use Rattle.text_scan.specs.Scan.{EndIs};
 ghost use Rattle.read_grammar.specs.Decisions.{closes, StartIs, NotAllowedIs, TurnIs, PlaceIs};
-use text_chars::Cursor;
-use text_chars::DocAt;
-use text_unquoted::Letters;
 
 /// What begins at a place of a value.
 pub enum Start {

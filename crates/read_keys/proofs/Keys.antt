@@ -22,14 +22,14 @@ use Rattle.text_chars.specs.declared.DocAt.{DocAt}
 use Rattle.text_chars.specs.declared.Cursor.{Cursor}
 use Rattle.read_grammar.specs.Decisions.{Placed, PlaceIs}
 use Rattle.read_grammar.specs.declared.Place.{Place}
-use Rattle.text_marks.specs.Holding.{Held}
-use Rattle.text_marks.specs.Judging.{JudgeIs}
-use Rattle.text_marks.specs.Verdicts.{verdict-fine, verdict-bad}
+use Rattle.text_elements.specs.Marks.Holding.{Held}
+use Rattle.text_elements.specs.Marks.Judging.{JudgeIs}
+use Rattle.text_elements.specs.Marks.Verdicts.{verdict-fine, verdict-bad}
 use Rattle.text_paths.specs.Whole.{ElementsIs}
 use Rattle.text_paths.specs.Joins.{joins, unjoined}
-use Rattle.text_marks.specs.declared.Verdict.{Verdict}
+use Rattle.text_elements.specs.declared.marks.Verdict.{Verdict}
 use Rattle.text_paths.specs.declared.Joined.{Joined}
-use Rattle.read_limits.specs.Limits.{AllowedIs}
+use Rattle.read_grammar.specs.Limits.Limits.{AllowedIs}
 use Rattle.doc_items.specs.Keys.{HeldKeys, keySizes}
 use Rattle.read_keys.specs.Keys.{Values, keyed, valued, JudgeKeyAsked, Judges, JudgeKeyIs, PathAsked, Paths, PathIs, KeyAsked, Keys, KeyIs}
 use Rattle.read_keys.specs.declared.KeyRead.{KeyRead}

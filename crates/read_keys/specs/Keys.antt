@@ -10,9 +10,9 @@ use Rattle.rules.specs.Refusals.{Refusal, placed, numberOf, placeOf, ok, Read, 
 use Rattle.rules.specs.Tree.{Key, Node}
 use Rattle.rules.specs.Paths.{segmentsAt, Element, elementsOf, anyEmpty, judge}
 use Rattle.rules.specs.Reading.{FieldRead, inside, valuePlace, allowedKeys, fieldJudged, fieldAt}
-use Rattle.text_marks.specs.Marks.{marksRoom}
-use Rattle.text_marks.specs.Holding.{Held}
-use Rattle.read_limits.specs.Limits.{nestingInRoot}
+use Rattle.text_elements.specs.Marks.Marks.{marksRoom}
+use Rattle.text_elements.specs.Marks.Holding.{Held}
+use Rattle.read_grammar.specs.Limits.Limits.{nestingInRoot}
 use Rattle.doc_items.specs.Keys.{HeldKeys, keySizes}
 use Rattle.read_keys.specs.declared.KeyRead.{KeyRead}
 

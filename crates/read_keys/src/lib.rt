@@ -4,7 +4,7 @@ use codes::refusals;
 use read_grammar::Place;
 use text_chars::Cursor;
 use text_chars::DocAt;
-use text_marks::Verdict;
+use text_elements::marks::Verdict;
 use text_paths::Joined;
 ghost use Rattle.read_keys.specs.Keys.{JudgeKeyAsked, JudgeKeyIs, PathAsked, PathIs, KeyAsked, KeyIs};
 
@@ -30,7 +30,7 @@ fn judge_key(
     requires { ⌜ JudgeKeyAsked (now s) (end .at .0) allowed (now marks) ⌝ }
     ensures { λ r. ⌜ JudgeKeyIs (now (s .entry)) (end .at .0) count empty (first .0) allowed (now (marks .entry)) r ⌝ }
 {
-    match text_marks::judge_elements(count, empty, first, allowed, marks) {
+    match text_elements::marks::judge_elements(count, empty, first, allowed, marks) {
         Verdict::Refused { number, place } => KeyRead::Refused { number, place },
         Verdict::Fine => match read_grammar::value_place(s, end) {
             Place::Refused { number, place } => KeyRead::Refused { number, place },
@@ -82,6 +82,6 @@ pub fn key(
             place,
         };
     }
-    let allowed = read_limits::allowed_keys(left, items);
+    let allowed = read_grammar::limits::allowed_keys(left, items);
     key_path(s, c, allowed, text, marks)
 }

@@ -7,7 +7,7 @@ use native.Mathlib.Omega.{arith}
 use lib.ListN.{length, set, take, length-set}
 use lib.Seq.{take-suc-set}
 use Rattle.text_chars.specs.declared.TextAt.{TextAt}
-use Rattle.text_marks.specs.Marks.{endOf}
+use Rattle.text_elements.specs.Marks.Marks.{endOf}
 use Rattle.read_references.specs.References.{endsTo, EndsAsked, EndsIs}
 
 -- what the loop keeps: so many ends are written

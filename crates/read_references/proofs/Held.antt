@@ -7,8 +7,8 @@ use lib.ListN.{length, take, drop, length-append}
 use lib.Seq.{slice, take-add, drop-at, drop-drop, length-take-le}
 use Rattle.rules.specs.Bytes.{Text}
 use Rattle.rules.specs.Paths.{Element, textsOf, sizes}
-use Rattle.text_marks.specs.Marks.{marked, endOf}
-use Rattle.text_marks.specs.Holding.{Held}
+use Rattle.text_elements.specs.Marks.Marks.{marked, endOf}
+use Rattle.text_elements.specs.Marks.Holding.{Held}
 use Rattle.doc_items.specs.Codes.{pathTexts, pathEnds}
 use Rattle.read_references.specs.References.{endsTo}
 

@@ -11,7 +11,7 @@ use Rattle.doc_items.specs.Codes.{referenceCode}
 use Rattle.read_references.specs.References.{References, ReferenceIs}
 use Rattle.read_references.specs.declared.ReferenceRead.{ReferenceRead}
 use Rattle.read_references.specs.ReferencePieces.{ReferencePieceIs}
-use Rattle.read_pieces.specs.declared.PieceRead.{PieceRead}
+use Rattle.read_values.specs.declared.pieces.PieceRead.{PieceRead}
 
 module _ {s : List ℕ} {at : ℕ} {before after : List ℕ} {r : ReferenceRead} (h : ReferenceIs s at before after r) where
   pub linked-refused : {w items k : ℕ} {p : DocAt} → r ≡ ReferenceRead.Refused k p → ReferencePieceIs s at w items before after (PieceRead.Refused k p)

@@ -18,12 +18,12 @@ use Rattle.text_chars.specs.declared.Cursor.{Cursor}
 use Rattle.text_scan.specs.Scan.{SeenIs}
 use Rattle.text_scan.specs.declared.Seen.{Seen}
 use Rattle.read_grammar.specs.Decisions.{NotAllowedIs}
-use Rattle.text_marks.specs.Marks.{marksRoom, endOf}
-use Rattle.text_marks.specs.Judging.{JudgeIs}
-use Rattle.text_marks.specs.Verdicts.{verdict-fine, verdict-bad}
+use Rattle.text_elements.specs.Marks.Marks.{marksRoom, endOf}
+use Rattle.text_elements.specs.Marks.Judging.{JudgeIs}
+use Rattle.text_elements.specs.Marks.Verdicts.{verdict-fine, verdict-bad}
 use Rattle.text_paths.specs.Whole.{ElementsAsked, ElementsIs}
 use Rattle.text_paths.specs.Joins.{joins, unjoined}
-use Rattle.text_marks.specs.declared.Verdict.{Verdict}
+use Rattle.text_elements.specs.declared.marks.Verdict.{Verdict}
 use Rattle.text_paths.specs.declared.Joined.{Joined}
 use Rattle.doc_items.specs.Codes.{pathTexts, pathEnds}
 use Rattle.read_references.specs.References.{endsTo, OpenedIs, substitute, bracedScan, BraceAsked, Braces, BraceIs, Betweens, BetweenIs, EndsAsked, EndsIs, ReferenceAsked, ReferenceIs}

@@ -9,8 +9,8 @@ use Rattle.rules.specs.Refusals.{ok}
 use Rattle.rules.specs.Paths.{substitutionAt}
 use Rattle.rules.specs.Tree.{Substitution}
 use Rattle.doc_items.specs.Codes.{referenceCode, pathTexts, pathBytes}
-use Rattle.read_pieces.specs.Pieces.{ScanRefuses}
-use Rattle.read_pieces.specs.declared.PieceRead.{PieceRead}
+use Rattle.read_values.specs.Pieces.Pieces.{ScanRefuses}
+use Rattle.read_values.specs.declared.pieces.PieceRead.{PieceRead}
 
 pub record ReferencePieceAsked (s : List ℕ) (at items : ℕ) (text : List ℕ) : Type 0 where
   pub short : length s ≤ maxDocument

@@ -10,8 +10,8 @@ use Rattle.rules.specs.Bytes.{byteAt}
 use Rattle.rules.specs.Refusals.{Refusal, numberOf, placeOf, notAllowed, Scan, ok, refused}
 use Rattle.rules.specs.Paths.{Element, anyEmpty, judge, judged, textsOf, braced, substitutionAt, sizes}
 use Rattle.rules.specs.Tree.{Substitution}
-use Rattle.text_marks.specs.Marks.{marksRoom, endOf}
-use Rattle.text_marks.specs.Holding.{Held}
+use Rattle.text_elements.specs.Marks.Marks.{marksRoom, endOf}
+use Rattle.text_elements.specs.Marks.Holding.{Held}
 use Rattle.text_chars.specs.declared.TextLen.{TextLen}
 use Rattle.doc_items.specs.Codes.{pathTexts, pathBytes}
 use Rattle.read_references.specs.declared.Opened.{Opened}

@@ -3,13 +3,13 @@
 // Computes: Paths (`substitutionAt`)
 use codes::bytes;
 use codes::limits;
-use read_pieces::PieceItem;
-use read_pieces::PieceRead;
+use read_values::pieces::PieceItem;
+use read_values::pieces::PieceRead;
 use text_chars::Cursor;
 use text_chars::DocAt;
 use text_chars::TextAt;
 use text_chars::TextLen;
-use text_marks::Verdict;
+use text_elements::marks::Verdict;
 use text_paths::Joined;
 ghost use Rattle.text_paths.specs.Whole.{ElementsAsked};
 ghost use Rattle.read_references.specs.References.{OpenedAsked, OpenedIs, BraceAsked, BraceIs, BetweenIs};
@@ -85,7 +85,7 @@ fn close_reference(
     let ch = here.ch;
     if ch == bytes::CLOSE_BRACE {
         let after = here.next;
-        return match text_marks::judge_path(count, empty, dollar, marks) {
+        return match text_elements::marks::judge_path(count, empty, dollar, marks) {
             Verdict::Fine => Brace::Past(after),
             Verdict::Refused { number, place } => Brace::Refused { number, place },
         };
@@ -132,11 +132,11 @@ fn write_ends(marks: &[usize], count: usize, text: &mut [u8]) -> TextLen
     ensures { λ r. ⌜ EndsIs (now (marks .entry)) count (now (text .entry)) (now (text .exit)) r ⌝ }
 {
     let last = count - 1;
-    let whole = text_marks::end_at(marks, last);
+    let whole = text_elements::marks::end_at(marks, last);
     let size = whole.0;
     let mut i = 0;
     while i < count {
-        let end = text_marks::end_at(marks, i);
+        let end = text_elements::marks::end_at(marks, i);
         let e = end.0;
         let k = size + 2 * i;
         text[k] = (e / 256) as u8;
@@ -182,7 +182,7 @@ pub fn reference_piece(s: &[u8], c: Cursor, w: TextAt, items: usize, text: &mut 
         } => PieceRead::Done(PieceItem {
             next,
             items: items + 1,
-            kind: read_pieces::reference_kind(optional),
+            kind: read_values::pieces::reference_kind(optional),
             text: w,
             size,
             number: count,

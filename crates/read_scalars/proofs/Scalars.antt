@@ -19,7 +19,7 @@ use Rattle.text_chars.specs.Cursor.{doc, cur}
 use Rattle.text_chars.specs.declared.DocAt.{DocAt}
 use Rattle.text_chars.specs.declared.TextLen.{TextLen}
 use Rattle.text_chars.specs.declared.Cursor.{Cursor}
-use Rattle.text_units.specs.Contracts.{WriteIs}
+use Rattle.text_bytes.specs.Contracts.{WriteIs}
 use Rattle.text_pieces.specs.Contracts.{ofScalar, ofToken, pieceOf, Moved, LaidToken, PieceAsked, PieceIs}
 use Rattle.text_pieces.specs.declared.Piece.{Piece}
 use Rattle.doc_items.specs.Codes.{codeOf}

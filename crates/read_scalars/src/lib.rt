@@ -30,7 +30,7 @@ fn copy_written(s: &[u8], c: Cursor, next: Cursor, kind: u8, text: &mut [u8]) ->
 {
     let from = c.at;
     let to = next.at;
-    let n = text_units::copy(s, from, to, text);
+    let n = text_bytes::copy(s, from, to, text);
     ScalarRead::Done {
         kind,
         next,

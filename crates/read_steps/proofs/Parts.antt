@@ -9,7 +9,7 @@ use Rattle.text_chars.specs.declared.Cursor.{Cursor}
 use Rattle.read_scalars.specs.Scalars.{Scalars, ScalarIs}
 use Rattle.read_scalars.specs.declared.ScalarRead.{ScalarRead}
 use Rattle.read_steps.specs.Steps.{ScalarPieceIs}
-use Rattle.read_pieces.specs.declared.PieceRead.{PieceRead}
+use Rattle.read_values.specs.declared.pieces.PieceRead.{PieceRead}
 
 module _ {s : List ℕ} {at : ℕ} {before after : List ℕ} {r : ScalarRead} (h : ScalarIs s at before after r) where
   pub plain-refused : {w items k : ℕ} {p : DocAt} → r ≡ ScalarRead.Refused k p → ScalarPieceIs s at w items before after (PieceRead.Refused k p)

@@ -6,11 +6,11 @@ use native.Mathlib.Omega.{arith}
 use lib.Seq.{slice, length-slice}
 use Rattle.text_chars.specs.declared.DocAt.{DocAt}
 use Rattle.text_chars.specs.declared.TextAt.{TextAt}
-use Rattle.text_units.specs.Contracts.{WriteIs}
+use Rattle.text_bytes.specs.Contracts.{WriteIs}
 use Rattle.doc_items.specs.Writing.{ItemAsked, ItemIs}
 use Rattle.doc_items.specs.declared.Item.{Item}
 use Rattle.read_steps.specs.Steps.{pieceItem, PutPieceAsked, PutPieceIs}
-use Rattle.read_pieces.specs.declared.PieceItem.{PieceItem}
+use Rattle.read_values.specs.declared.pieces.PieceItem.{PieceItem}
 
 -- a piece's item by the size of the whitespace before it
 abbrev itemWith : DocAt → TextAt → ℕ → ℕ → PieceItem → Item

@@ -10,16 +10,16 @@ use Rattle.text_chars.specs.declared.DocAt.{DocAt}
 use Rattle.text_chars.specs.declared.TextAt.{TextAt}
 use Rattle.text_chars.specs.declared.TextLen.{TextLen}
 use Rattle.text_chars.specs.declared.Cursor.{Cursor}
-use Rattle.read_fields.specs.Keys.{PutAsked, PutIs}
+use Rattle.read_values.specs.Fields.Keys.{PutAsked, PutIs}
 use Rattle.doc_items.specs.Writing.{ItemAsked, ItemIs}
 use Rattle.read_values.specs.declared.Run.{Run}
-use Rattle.read_pieces.specs.Pieces.{AfterMemberIs, AddPieceAsked, AddPieceIs}
+use Rattle.read_values.specs.Pieces.Pieces.{AfterMemberIs, AddPieceAsked, AddPieceIs}
 use Rattle.read_steps.specs.Steps.{PutPieceAsked, PutPieceIs, Placeable, FinishPieceAsked, FinishPieceIs, Nameable, FinishFieldAsked, FinishFieldIs, elementItem, Listable, FinishElementAsked, FinishElementIs}
-use Rattle.read_pieces.specs.declared.Listed.{Listed}
-use Rattle.read_pieces.specs.declared.Valued.{Valued}
-use Rattle.read_pieces.specs.declared.PieceItem.{PieceItem}
-use Rattle.read_pieces.specs.declared.PieceRead.{PieceRead}
-use Rattle.read_pieces.specs.declared.ValueStep.{ValueStep}
+use Rattle.read_values.specs.declared.pieces.Listed.{Listed}
+use Rattle.read_values.specs.declared.pieces.Valued.{Valued}
+use Rattle.read_values.specs.declared.pieces.PieceItem.{PieceItem}
+use Rattle.read_values.specs.declared.pieces.PieceRead.{PieceRead}
+use Rattle.read_values.specs.declared.pieces.ValueStep.{ValueStep}
 
 -- ---- pieces
 

@@ -11,18 +11,18 @@ use Rattle.rules.specs.Pieces.{Token, startsSimple, simpleAt, scalarText}
 use Rattle.text_chars.specs.declared.DocAt.{DocAt}
 use Rattle.text_chars.specs.declared.TextAt.{TextAt}
 use Rattle.text_chars.specs.declared.TextLen.{TextLen}
-use Rattle.text_units.specs.Contracts.{WriteIs}
+use Rattle.text_bytes.specs.Contracts.{WriteIs}
 use Rattle.doc_items.specs.Codes.{codeOf}
 use Rattle.doc_items.specs.Writing.{ItemAsked, ItemIs}
 use Rattle.doc_items.specs.declared.Item.{Item}
-use Rattle.read_fields.specs.Keys.{PutAsked, PutIs}
+use Rattle.read_values.specs.Fields.Keys.{PutAsked, PutIs}
 use Rattle.read_values.specs.declared.Run.{Run}
-use Rattle.read_pieces.specs.Pieces.{ScanRefuses, AfterMemberIs, AddPieceAsked, AddPieceIs}
-use Rattle.read_pieces.specs.declared.Listed.{Listed}
-use Rattle.read_pieces.specs.declared.Valued.{Valued}
-use Rattle.read_pieces.specs.declared.PieceItem.{PieceItem}
-use Rattle.read_pieces.specs.declared.PieceRead.{PieceRead}
-use Rattle.read_pieces.specs.declared.ValueStep.{ValueStep}
+use Rattle.read_values.specs.Pieces.Pieces.{ScanRefuses, AfterMemberIs, AddPieceAsked, AddPieceIs}
+use Rattle.read_values.specs.declared.pieces.Listed.{Listed}
+use Rattle.read_values.specs.declared.pieces.Valued.{Valued}
+use Rattle.read_values.specs.declared.pieces.PieceItem.{PieceItem}
+use Rattle.read_values.specs.declared.pieces.PieceRead.{PieceRead}
+use Rattle.read_values.specs.declared.pieces.ValueStep.{ValueStep}
 
 -- ---- pieces
 

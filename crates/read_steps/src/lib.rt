@@ -3,13 +3,13 @@
 // Computes: Reading (`pieceAt`, `fieldAt`, `elementAt`, but for what they read by calling themselves)
 use codes::bytes;
 use doc_items::Item;
-use read_pieces::Listed;
-use read_pieces::PieceItem;
-use read_pieces::PieceRead;
-use read_pieces::ValueStep;
-use read_pieces::Valued;
 use read_scalars::ScalarRead;
 use read_values::Run;
+use read_values::pieces::Listed;
+use read_values::pieces::PieceItem;
+use read_values::pieces::PieceRead;
+use read_values::pieces::ValueStep;
+use read_values::pieces::Valued;
 use text_chars::Cursor;
 use text_chars::DocAt;
 use text_chars::TextAt;
@@ -51,7 +51,7 @@ fn put_piece(
     ensures { λ _. ⌜ PutPieceIs (now (s .entry)) (place .0) (from .0) (used .0) items f (now (table .entry)) (now (text .entry))
         (now (table .exit)) (now (text .exit)) ⌝ }
 {
-    let gap = text_units::copy(s, from, place, text);
+    let gap = text_bytes::copy(s, from, place, text);
     let n = f.items;
     let kind = f.kind;
     let at = f.text;
@@ -91,7 +91,7 @@ pub fn finish_piece(
         PieceRead::Refused { number, place: bad } => ValueStep::Refused { number, place: bad },
         PieceRead::Done(found) => {
             put_piece(s, place, from, used, items, found, table, text);
-            read_pieces::add_piece(run, place, found)
+            read_values::pieces::add_piece(run, place, found)
         }
     }
 }
@@ -122,8 +122,8 @@ pub fn finish_field(
             size,
         } => {
             let base = TextAt(2 * place.0);
-            read_fields::put_fields(table, marks, count, n - items, base, kind, text, size);
-            read_pieces::after_member(s, next, n, closing)
+            read_values::fields::put_fields(table, marks, count, n - items, base, kind, text, size);
+            read_values::pieces::after_member(s, next, n, closing)
         }
     }
 }
@@ -153,7 +153,7 @@ pub fn finish_element(s: &[u8], place: DocAt, items: usize, v: Valued, table: &m
                 number: 0,
             };
             doc_items::put_item(table, 0, item);
-            read_pieces::after_member(s, next, n, bytes::CLOSE_BRACKET)
+            read_values::pieces::after_member(s, next, n, bytes::CLOSE_BRACKET)
         }
     }
 }

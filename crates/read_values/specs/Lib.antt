@@ -1,2 +1,4 @@
 pub mod Runs
 pub mod Shows
+pub mod Fields
+pub mod Pieces

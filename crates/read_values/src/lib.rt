@@ -1,5 +1,9 @@
 // What the pieces of a value come to, by numbers alone: how many there are, what the first is, and whether one is unlike it.
 // Computes: Reading (`judgeValue`)
+
+pub mod fields;
+pub mod pieces;
+
 use doc_items::REQUIRED;
 use doc_items::STRING;
 use doc_items::UNRESOLVED;

@@ -18,13 +18,13 @@ use Rattle.text_chars.specs.Parts.{part-slice}
 use Rattle.text_chars.specs.Cursor.{doc}
 use Rattle.text_chars.specs.declared.RecAt.{RecAt}
 use Rattle.text_chars.specs.declared.TextAt.{TextAt}
-use Rattle.sheet_kinds.specs.Contracts.{nearRoom, rec, recLen, endAt, Between, EndIs}
-use Rattle.sheet_kinds.specs.Ends.{some-is, none-is, between-is}
-use Rattle.sheet_kinds.specs.declared.End.{End}
-use Rattle.text_marks.specs.Holding.{Held}
-use Rattle.text_marks.specs.Marks.{endOf}
+use Rattle.sheet_records.specs.Kinds.Contracts.{nearRoom, rec, recLen, endAt, Between, EndIs}
+use Rattle.sheet_records.specs.Kinds.Ends.{some-is, none-is, between-is}
+use Rattle.sheet_records.specs.declared.kinds.End.{End}
+use Rattle.text_elements.specs.Marks.Holding.{Held}
+use Rattle.text_elements.specs.Marks.Marks.{endOf}
 use Rattle.sheet_paths.specs.Contracts.{Near, Inside, NextIs, ValueNamedIs, PartIs, PartNamedIs}
-use Rattle.job_answers.specs.declared.Found.{Found}
+use Rattle.sheet_paths.specs.declared.Found.{Found}
 
 -- an end, back as the rules have it
 some-end : (o : Option ℕ) (p : RecAt) → End.At p ≡ endAt o → o ≡ some (p .0)

@@ -9,11 +9,11 @@ use Rattle.rules.specs.Sizes.{maxRoom}
 use Rattle.rules.specs.Paths.{Element, textsOf}
 use Rattle.rules.specs.LookUp.{memberAt, valueNamed}
 use Rattle.rules.specs.Jobs.{foundAt}
-use Rattle.sheet_kinds.specs.Contracts.{endAt}
-use Rattle.sheet_kinds.specs.declared.End.{End}
-use Rattle.text_marks.specs.Holding.{Held}
-use Rattle.job_answers.specs.Answers.{jobOf}
-use Rattle.job_answers.specs.declared.Found.{Found}
+use Rattle.sheet_records.specs.Kinds.Contracts.{endAt}
+use Rattle.sheet_records.specs.declared.kinds.End.{End}
+use Rattle.text_elements.specs.Marks.Holding.{Held}
+use Rattle.sheet_paths.specs.Answers.{jobOf}
+use Rattle.sheet_paths.specs.declared.Found.{Found}
 
 -- a place at most a member's few bytes past the table
 abbrev pub Near : End → Type 0

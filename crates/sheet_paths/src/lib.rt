@@ -1,9 +1,9 @@
 // The value that a path names in a table: one member after another, then the part of the records that is the value.
-// Computes: LookUp (valueNamed), Jobs (foundAt)
+// The answer of look-up: its cases, and the 64 bits of it that C gets.
+// Computes: LookUp (valueNamed), Jobs (foundAt, Found)
 use codes::limits;
 use codes::refusals;
-use job_answers::Found;
-use sheet_kinds::End;
+use sheet_records::kinds::End;
 use text_chars::DocAt;
 use text_chars::RecAt;
 use text_chars::RecLen;
@@ -12,9 +12,11 @@ use text_chars::TextLen;
 ghost use Prim.Native.Nat.{_≤_};
 ghost use lib.ListN.{length};
 ghost use Rattle.rules.specs.Sizes.{maxRoom, maxPath};
-ghost use Rattle.sheet_kinds.specs.Contracts.{nearRoom};
-ghost use Rattle.text_marks.specs.Marks.{marksRoom};
+ghost use Rattle.sheet_records.specs.Kinds.Contracts.{nearRoom};
+ghost use Rattle.text_elements.specs.Marks.Marks.{marksRoom};
 ghost use Rattle.sheet_paths.specs.Contracts.{NextIs, ValueNamedIs, PartIs, PartNamedIs};
+ghost use mathlib.Core.Path.{_≡_};
+ghost use Rattle.sheet_paths.specs.Answers.{jobOf, packed, Packable};
 
 // The rules' number where fuel runs out; no job gives it.
 const SPENT_FUEL: u8 = 63;
@@ -44,7 +46,7 @@ fn value_named(table: &[u8], text: &[u8], names: &[u8], marks: &[usize], count: 
     let mut from = TextAt(0);
     let mut i = 0;
     while i < count {
-        let end = text_marks::end_at(marks, i);
+        let end = text_elements::marks::end_at(marks, i);
         match next_value(table, text, names, from, end, at) {
             End::Nowhere => {
                 return End::Nowhere;
@@ -92,5 +94,39 @@ pub fn part_named(table: &[u8], text: &[u8], names: &[u8], marks: &[usize], coun
             number: refusals::NOT_FOUND,
             place: DocAt(0),
         },
+    }
+}
+
+/// What a path names in a table.
+pub enum Found {
+    /// A value: where it starts in the table's records, and how many bytes of them it takes.
+    Part { start: RecAt, size: RecLen },
+    /// No value: a refusal's number and place.
+    Refused { number: u8, place: DocAt },
+}
+
+// The lowest bits of what is packed above the number: a value's start or a refusal's place, and a value's size.
+const START: u64 = 64;
+
+const PLACE: u64 = 64;
+
+const SIZE: u64 = 64 * 65536;
+
+/// A found value's or a refusal's 64 bits.
+pub fn pack(found: Found) -> u64
+    requires { ⌜ Packable found ⌝ }
+    ensures { λ r. ⌜ r ≡ packed (jobOf found) ⌝ }
+{
+    match found {
+        Found::Part { start, size } => {
+            let s = start.0 as u64;
+            let z = size.0 as u64;
+            s * START + z * SIZE
+        }
+        Found::Refused { number, place } => {
+            let n = number as u64;
+            let p = place.0 as u64;
+            n + p * PLACE
+        }
     }
 }

@@ -11,10 +11,10 @@ use Rattle.rules.specs.Bytes.{same}
 use Rattle.rules.specs.Sizes.{maxRoom}
 use Rattle.rules.specs.LookUp.{textAt, afterValue, memberFrom, memberAt}
 use Rattle.text_chars.specs.Cursor.{ByteIs}
-use Rattle.sheet_kinds.specs.Contracts.{nearRoom, rec, PairIs, EndIs}
+use Rattle.sheet_records.specs.Kinds.Contracts.{nearRoom, rec, PairIs, EndIs}
 use Rattle.text_chars.specs.declared.RecAt.{RecAt}
-use Rattle.sheet_kinds.specs.declared.End.{End}
-use Rattle.sheet_kinds.specs.Ends.{end-some, end-none, end-as, some-is, none-is, between-is}
+use Rattle.sheet_records.specs.declared.kinds.End.{End}
+use Rattle.sheet_records.specs.Kinds.Ends.{end-some, end-none, end-as, some-is, none-is, between-is}
 use Rattle.sheet_records.proofs.Values.{byte-in}
 
 -- the text that a record refers to

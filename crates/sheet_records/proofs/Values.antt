@@ -13,13 +13,13 @@ use Rattle.rules.specs.Sheet.{pairAt}
 use Rattle.rules.specs.LookUp.{afterText, afterMembers, afterRecord, afterValue, isWhole}
 use Rattle.theory_text.specs.Places.{byte-past}
 use Rattle.text_chars.specs.Cursor.{ByteIs}
-use Rattle.sheet_kinds.specs.Contracts.{rec, PairIs, EndIs, valueStart}
-use Rattle.sheet_kinds.specs.Kinds.{kindOf, kind-small}
+use Rattle.sheet_records.specs.Kinds.Contracts.{rec, PairIs, EndIs, valueStart}
+use Rattle.sheet_records.specs.Kinds.Kinds.{kindOf, kind-small}
 use Rattle.sheet_records.specs.Contracts.{membersEnd}
 use Rattle.text_chars.specs.declared.RecAt.{RecAt}
-use Rattle.sheet_kinds.specs.declared.End.{End}
-use Rattle.sheet_kinds.specs.declared.Kind.{Kind}
-use Rattle.sheet_kinds.specs.Ends.{clash, end-some, end-none, end-as, some-is, none-is, between-is, value-near}
+use Rattle.sheet_records.specs.declared.kinds.End.{End}
+use Rattle.sheet_records.specs.declared.kinds.Kind.{Kind}
+use Rattle.sheet_records.specs.Kinds.Ends.{clash, end-some, end-none, end-as, some-is, none-is, between-is, value-near}
 
 -- ---- the rules' record by the code's kinds
 

@@ -1,13 +1,16 @@
 // Records of a table that another lends: where one ends, whether a table is whole, and the value of a key. Any bytes may be lent.
 // Computes: LookUp (afterValue, isWhole, memberAt)
+
+pub mod kinds;
+
+use crate::kinds::End;
+use crate::kinds::Kind;
+use crate::kinds::after_text;
+use crate::kinds::kind_of;
+use crate::kinds::pair_at;
+use crate::kinds::value_start;
 use codes::limits;
-use sheet_kinds::End;
-use sheet_kinds::Kind;
-use sheet_kinds::after_text;
-use sheet_kinds::kind_of;
-use sheet_kinds::pair_at;
-use sheet_kinds::value_start;
-use sheet_texts::same_text;
+use text_bytes::same_text;
 use text_chars::RecAt;
 use text_chars::TextAt;
 use text_chars::TextLen;
@@ -18,7 +21,7 @@ ghost use lib.ListN.{length};
 ghost use Rattle.rules.specs.Bytes.{same};
 ghost use Rattle.rules.specs.Sizes.{maxRoom, maxNesting};
 ghost use Rattle.rules.specs.LookUp.{afterValue, isWhole, textAt, memberFrom, memberAt};
-ghost use Rattle.sheet_kinds.specs.Contracts.{nearRoom, EndIs};
+ghost use Rattle.sheet_records.specs.Kinds.Contracts.{nearRoom, EndIs};
 ghost use Rattle.sheet_records.specs.Contracts.{nearMember, pastMember, membersEnd};
 
 /// The end of the value at a place, found from the ends of those inside it; so many containers may stand inside one another.
@@ -139,7 +142,7 @@ pub fn member(table: &[u8], text: &[u8], key: &[u8], at: RecAt) -> End
         (pastMember (now (table .entry))) r ⌝ }
 {
     let p = at.0;
-    if record_byte(table, at) == sheet_kinds::OBJECT {
+    if record_byte(table, at) == crate::kinds::OBJECT {
         let count = pair_at(table, RecAt(p + 1));
         return member_from(table, text, key, count, RecAt(p + 3));
     }

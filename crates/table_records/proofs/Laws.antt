@@ -14,11 +14,11 @@ use Rattle.rules.specs.LookUp.{textAt}
 use Rattle.theory_text.specs.Places.{byte-past}
 use Rattle.text_chars.specs.Cursor.{ByteIs}
 use Rattle.text_chars.specs.declared.RecAt.{RecAt}
-use Rattle.sheet_kinds.specs.Contracts.{nearRoom, rec, PairIs, EndIs}
-use Rattle.sheet_kinds.specs.Kinds.{kindOf, kind-small}
-use Rattle.sheet_kinds.specs.declared.End.{End}
-use Rattle.sheet_kinds.specs.declared.Kind.{Kind}
-use Rattle.sheet_kinds.specs.Ends.{clash, end-some, end-none, end-as, some-is, none-is, between-is}
+use Rattle.sheet_records.specs.Kinds.Contracts.{nearRoom, rec, PairIs, EndIs}
+use Rattle.sheet_records.specs.Kinds.Kinds.{kindOf, kind-small}
+use Rattle.sheet_records.specs.declared.kinds.End.{End}
+use Rattle.sheet_records.specs.declared.kinds.Kind.{Kind}
+use Rattle.sheet_records.specs.Kinds.Ends.{clash, end-some, end-none, end-as, some-is, none-is, between-is}
 use Rattle.table_records.specs.Skips.{endsAt, skipBy, skipValue, memberFrom, memberAt, nearKey, pastKey}
 
 -- ---- an end

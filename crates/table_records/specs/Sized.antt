@@ -22,8 +22,8 @@ use Rattle.theory.specs.SameMeaning.{at-left, at-right}
 use Rattle.theory.specs.LaidOut.{at-byte, at-pair, at-inside, text-read}
 use Rattle.theory_tables.specs.Trees.{endOf}
 use Rattle.theory_tables.specs.Sized.{sized-length}
-use Rattle.sheet_kinds.specs.Kinds.{kindOf}
-use Rattle.sheet_kinds.specs.declared.Kind.{Kind}
+use Rattle.sheet_records.specs.Kinds.Kinds.{kindOf}
+use Rattle.sheet_records.specs.declared.kinds.Kind.{Kind}
 use Rattle.table_records.specs.Skips.{endsAt, skipBy, skipValue, memberFrom, memberAt}
 
 count-sized : (ms : Members) → countMembers ms ≤ sizedMemberSizes ms

@@ -10,8 +10,8 @@ use Rattle.rules.specs.Kinds as kinds
 use Rattle.rules.specs.Sheet.{pairAt}
 use Rattle.rules.specs.LookUp.{textAt}
 use Rattle.rules_tables.specs.Trees.{sizedHead}
-use Rattle.sheet_kinds.specs.Kinds.{kindOf}
-use Rattle.sheet_kinds.specs.declared.Kind.{Kind}
+use Rattle.sheet_records.specs.Kinds.Kinds.{kindOf}
+use Rattle.sheet_records.specs.declared.kinds.Kind.{Kind}
 
 -- where members are looked for, at most four bytes past the table; and a value, behind a key there
 abbrev pub nearKey : ℕ

@@ -1,11 +1,11 @@
 // Records of a sized table: where a value ends, read off its own record, and the value of a key by skips from member to member. Any bytes
 // may be lent; of a sized table it comes to what the definitions say (specs/Sized).
 // Computes: SizedTables (sizedMember)
-use sheet_kinds::End;
-use sheet_kinds::Kind;
-use sheet_kinds::kind_of;
-use sheet_kinds::pair_at;
-use sheet_texts::same_text;
+use sheet_records::kinds::End;
+use sheet_records::kinds::Kind;
+use sheet_records::kinds::kind_of;
+use sheet_records::kinds::pair_at;
+use text_bytes::same_text;
 use text_chars::RecAt;
 use text_chars::TextAt;
 use text_chars::TextLen;
@@ -16,7 +16,7 @@ ghost use lib.ListN.{length};
 ghost use Rattle.rules.specs.Bytes.{same};
 ghost use Rattle.rules.specs.Sizes.{maxRoom};
 ghost use Rattle.rules.specs.LookUp.{textAt};
-ghost use Rattle.sheet_kinds.specs.Contracts.{nearRoom, EndIs};
+ghost use Rattle.sheet_records.specs.Kinds.Contracts.{nearRoom, EndIs};
 ghost use Rattle.table_records.specs.Skips.{endsAt, skipValue, memberFrom, memberAt, nearKey, pastKey};
 
 // An end, if it is not past the table.
@@ -88,7 +88,7 @@ pub fn member(table: &[u8], text: &[u8], key: &[u8], at: RecAt) -> End
         (pastKey (now (table .entry))) r ⌝ }
 {
     let p = at.0;
-    if record_byte(table, at) == sheet_kinds::OBJECT {
+    if record_byte(table, at) == sheet_records::kinds::OBJECT {
         let count = pair_at(table, RecAt(p + 1));
         return member_from(table, text, key, count, RecAt(p + 5));
     }

@@ -1,5 +1,9 @@
 // The elements of a path so far, by numbers: where an element ends, and whether it is empty. Nothing is written here.
 // Computes: Paths
+
+pub mod marks;
+pub mod segments;
+
 use text_chars::DocAt;
 use text_chars::TextAt;
 use text_chars::TextLen;

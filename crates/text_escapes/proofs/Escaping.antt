@@ -18,7 +18,7 @@ use Rattle.text_chars.specs.declared.DocAt.{DocAt}
 use Rattle.text_chars.specs.declared.Cursor.{Cursor}
 use Rattle.text_chars.specs.declared.Step.{Step}
 use Rattle.text_escapes.specs.Contracts.{letterOf, LetterIs, pointScan, PointFar, PointIs}
-use Rattle.text_units.specs.Contracts.{EncodeIs}
+use Rattle.text_bytes.specs.Contracts.{EncodeIs}
 use Rattle.text_escapes.specs.Contracts.{sized, EscapeIs}
 use Rattle.text_chars.specs.Clash.{clash}
 use Rattle.text_escapes.specs.Answers.{decoded-text, decoded-refusal}
@@ -26,7 +26,7 @@ use Rattle.text_escapes.specs.declared.CodePoint.{CodePoint}
 use Rattle.text_escapes.specs.declared.Letter.{Letter}
 use Rattle.text_escapes.specs.declared.Quoted.{Quoted}
 use Rattle.text_escapes.proofs.Characters.{past-letters, letter-seen}
-use Rattle.text_units.specs.Buffers.{write-text}
+use Rattle.text_bytes.specs.Buffers.{write-text}
 
 letter-byte : (o : Option ℕ) {b : ℕ} → letterOf o ≡ Letter.Byte b → o ≡ some b
 letter-byte none e = clash (cc)

@@ -10,7 +10,7 @@ use Rattle.rules.specs.Refusals.{Refusal, placed, numberOf, placeOf, Scan, ok, 
 use Rattle.text_chars.specs.Cursor.{doc, cur}
 use Rattle.text_chars.specs.declared.DocAt.{DocAt}
 use Rattle.text_chars.specs.declared.Cursor.{Cursor}
-use Rattle.text_units.specs.Contracts.{Laid}
+use Rattle.text_bytes.specs.Contracts.{Laid}
 use Rattle.text_escapes.specs.Contracts.{sized, quotedOf, TextLaid, TextFar, Decoded}
 use Rattle.text_chars.specs.declared.TextLen.{TextLen}
 use Rattle.text_escapes.specs.declared.Quoted.{Quoted}

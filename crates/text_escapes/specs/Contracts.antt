@@ -12,7 +12,7 @@ use Rattle.rules.specs.Utf8.{encoded}
 use Rattle.rules.specs.Strings.{expect, letterEscape, escapeAt}
 use Rattle.text_chars.specs.Cursor.{doc, cur}
 use Rattle.text_chars.specs.declared.TextLen.{TextLen}
-use Rattle.text_units.specs.Contracts.{Laid}
+use Rattle.text_bytes.specs.Contracts.{Laid}
 use Rattle.text_escapes.specs.declared.Expected.{Expected}
 use Rattle.text_escapes.specs.declared.CodePoint.{CodePoint}
 use Rattle.text_escapes.specs.declared.Letter.{Letter}

@@ -15,12 +15,12 @@ use Rattle.text_chars.specs.declared.Cursor.{Cursor}
 use Rattle.text_chars.specs.declared.DocAt.{DocAt}
 use Rattle.text_chars.specs.declared.Ill.{Ill}
 use Rattle.text_scan.specs.Scan.{EndIs}
-use Rattle.text_decimals.specs.Contracts.{decimalIn, DecimalIs, unitAs, UnitIs}
-use Rattle.text_decimals.specs.declared.Decimal.{Decimal}
-use Rattle.text_decimals.specs.declared.Start.{Start}
-use Rattle.text_decimals.specs.declared.UnitRead.{UnitRead}
-use Rattle.text_micrometres.specs.Contracts.{MeasuredIs}
-use Rattle.text_micrometres.specs.declared.Measured.{Measured}
+use Rattle.text_lengths.specs.Decimals.Contracts.{decimalIn, DecimalIs, unitAs, UnitIs}
+use Rattle.text_lengths.specs.declared.decimals.Decimal.{Decimal}
+use Rattle.text_lengths.specs.declared.decimals.Start.{Start}
+use Rattle.text_lengths.specs.declared.decimals.UnitRead.{UnitRead}
+use Rattle.text_lengths.specs.Micrometres.Contracts.{MeasuredIs}
+use Rattle.text_lengths.specs.declared.micrometres.Measured.{Measured}
 
 -- ---- behind the number
 

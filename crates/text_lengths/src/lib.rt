@@ -1,18 +1,22 @@
 // The length that a text writes: a number, whitespace, a unit.
 // Computes: Micrometres (lengthOf)
+
+pub mod decimals;
+pub mod micrometres;
+
+use crate::decimals::Decimal;
+use crate::decimals::Start;
+use crate::decimals::UnitRead;
+use crate::micrometres::Measured;
 use codes::refusals;
 use text_chars::Cursor;
 use text_chars::Ill;
-use text_decimals::Decimal;
-use text_decimals::Start;
-use text_decimals::UnitRead;
-use text_micrometres::Measured;
 ghost use Prim.Native.Nat.{_≤_};
 ghost use lib.ListN.{length};
 ghost use Rattle.rules.specs.Sizes.{maxDocument};
 ghost use Rattle.rules.specs.Micrometres.{withRest, lengthOf};
-ghost use Rattle.text_decimals.specs.Contracts.{decimalIn};
-ghost use Rattle.text_micrometres.specs.Contracts.{MeasuredIs};
+ghost use Rattle.text_lengths.specs.Decimals.Contracts.{decimalIn};
+ghost use Rattle.text_lengths.specs.Micrometres.Contracts.{MeasuredIs};
 
 // The length of the number with which a text begins, by what stands behind it.
 fn with_rest(s: &[u8], string: bool, d: Decimal) -> Measured
@@ -26,7 +30,7 @@ fn with_rest(s: &[u8], string: bool, d: Decimal) -> Measured
         };
     }
     if string {
-        match text_decimals::unit_at(s, text_decimals::after_space(s, Cursor { at: end })) {
+        match crate::decimals::unit_at(s, crate::decimals::after_space(s, Cursor { at: end })) {
             UnitRead::Missing => Measured::Refused {
                 number: refusals::MALFORMED_LENGTH,
             },
@@ -36,7 +40,7 @@ fn with_rest(s: &[u8], string: bool, d: Decimal) -> Measured
                         number: refusals::MINUS_SIGN,
                     };
                 }
-                text_micrometres::in_micrometres(s, unit, d)
+                crate::micrometres::in_micrometres(s, unit, d)
             }
         }
     } else {
@@ -55,7 +59,7 @@ pub fn length_of(s: &[u8], string: bool) -> Measured
         Ill::At(place) => Measured::Refused {
             number: refusals::MALFORMED_LENGTH,
         },
-        Ill::Nowhere => match text_decimals::decimal_of(s) {
+        Ill::Nowhere => match crate::decimals::decimal_of(s) {
             Start::Other => Measured::Refused {
                 number: refusals::MALFORMED_LENGTH,
             },

@@ -16,8 +16,8 @@ use Rattle.rules.specs.Paths.{Segment, segmentOf, gapSegment, segmentsFrom, Ele
 use Rattle.theory_text.specs.Choices.{same-test}
 use Rattle.theory_text.specs.Places.{inline-reached}
 use Rattle.theory.specs.Scanning.{Scans, oks, scan-refuses, simple-inside, simple-scans}
-use Rattle.text_segments.specs.Pieces.{remaining, splitTo, segmentTo, pieceTo}
-use Rattle.text_segments.specs.Keeping.{split-is}
+use Rattle.text_elements.specs.Segments.Pieces.{remaining, splitTo, segmentTo, pieceTo}
+use Rattle.text_elements.specs.Segments.Keeping.{split-is}
 
 then-same : {A B : Type 0} {P : A → ℕ → Type 0} {m : Scan A} {k l : A → ℕ → Scan B} → Scans P m
     → ((a : A) (end : ℕ) → P a end → k a end ≡ l a end) → andThen m k ≡ andThen m l

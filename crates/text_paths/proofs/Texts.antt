@@ -19,11 +19,11 @@ use Rattle.text_chars.specs.Cursor.{doc, cur}
 use Rattle.text_chars.specs.declared.DocAt.{DocAt}
 use Rattle.text_chars.specs.declared.Cursor.{Cursor}
 use Rattle.text_scan.specs.Scan.{EndIs}
-use Rattle.text_marks.specs.Holding.{Held}
-use Rattle.text_marks.specs.Judging.{verdictOf, JudgeIs}
+use Rattle.text_elements.specs.Marks.Holding.{Held}
+use Rattle.text_elements.specs.Marks.Judging.{verdictOf, JudgeIs}
 use Rattle.text_paths.specs.Whole.{ElementsAsked, joinedOf, HeldIn, ElementsIs}
 use Rattle.text_paths.specs.Texts.{readOf, endedScan, EndedIs, PathAsked, HeldTexts, PathIs}
-use Rattle.text_marks.specs.declared.Verdict.{Verdict}
+use Rattle.text_elements.specs.declared.marks.Verdict.{Verdict}
 use Rattle.text_paths.specs.declared.Joined.{Joined}
 use Rattle.text_paths.specs.declared.PathRead.{PathRead}
 

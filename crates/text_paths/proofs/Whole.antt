@@ -18,19 +18,19 @@ use Rattle.text_chars.specs.Cursor.{ByteIs, doc, cur}
 use Rattle.text_chars.specs.declared.DocAt.{DocAt}
 use Rattle.text_chars.specs.declared.Cursor.{Cursor}
 use Rattle.text_scan.specs.Scan.{EndIs}
-use Rattle.text_marks.specs.Marks.{marksRoom}
-use Rattle.text_segments.specs.Model.{state, FinishIs}
-use Rattle.text_segments.specs.Holding.{joined, Holds}
-use Rattle.text_segments.specs.Pieces.{remaining, pieceTo}
-use Rattle.text_segments.specs.Joining.{AdvanceAsked, Advances, AdvanceIs}
+use Rattle.text_elements.specs.Marks.Marks.{marksRoom}
+use Rattle.text_elements.specs.Segments.Model.{state, FinishIs}
+use Rattle.text_elements.specs.Segments.Holding.{joined, Holds}
+use Rattle.text_elements.specs.Segments.Pieces.{remaining, pieceTo}
+use Rattle.text_elements.specs.Segments.Joining.{AdvanceAsked, Advances, AdvanceIs}
 use Rattle.text_paths.specs.Whole.{Stops, StopIs, SpaceIs, Closes, ClosedIs, ElementsAsked, ElementsIs}
 use Rattle.text_elements.specs.Model.{finishC}
 use Rattle.text_elements.specs.declared.Path.{Path}
-use Rattle.text_segments.specs.declared.SegmentRead.{SegmentRead}
+use Rattle.text_elements.specs.declared.segments.SegmentRead.{SegmentRead}
 use Rattle.text_paths.specs.declared.Stop.{Stop}
 use Rattle.text_paths.specs.declared.Joined.{Joined}
-use Rattle.text_segments.specs.Keeping.{holds-finish}
-use Rattle.text_marks.specs.Marking.{mark-length}
+use Rattle.text_elements.specs.Segments.Keeping.{holds-finish}
+use Rattle.text_elements.specs.Marks.Marking.{mark-length}
 use Rattle.text_paths.proofs.Segments.{segments-dollar, segments-end, segments-begin, segments-fail, remaining-more}
 
 -- ---- what stands at a place

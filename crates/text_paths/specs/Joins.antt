@@ -12,7 +12,7 @@ use Rattle.theory.specs.Lengths.{segments-short, elements-short}
 use Rattle.text_chars.specs.Cursor.{doc, cur}
 use Rattle.text_chars.specs.declared.DocAt.{DocAt}
 use Rattle.text_chars.specs.declared.Cursor.{Cursor}
-use Rattle.text_marks.specs.Holding.{Held}
+use Rattle.text_elements.specs.Marks.Holding.{Held}
 use Rattle.text_paths.specs.Whole.{joinedOf, HeldIn, Ends, ElementsIs}
 use Rattle.text_paths.specs.declared.Joined.{Joined}
 

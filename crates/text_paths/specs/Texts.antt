@@ -10,8 +10,8 @@ use Rattle.rules.specs.Bytes.{Text}
 use Rattle.rules.specs.Refusals.{placed, numberOf, placeOf, Scan, ok, refused}
 use Rattle.rules.specs.Paths.{Element, anyEmpty, judge, judged, textsOf, pathText}
 use Rattle.text_chars.specs.Cursor.{doc}
-use Rattle.text_marks.specs.Marks.{marksRoom}
-use Rattle.text_marks.specs.Holding.{Held}
+use Rattle.text_elements.specs.Marks.Marks.{marksRoom}
+use Rattle.text_elements.specs.Marks.Holding.{Held}
 use Rattle.text_paths.specs.declared.PathRead.{PathRead}
 
 -- the code's answer to the rules'

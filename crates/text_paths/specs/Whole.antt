@@ -14,8 +14,8 @@ use Rattle.rules.specs.Paths.{Segment, segmentsAt, elementsOf, anyEmpty}
 use Rattle.text_chars.specs.Cursor.{doc, cur}
 use Rattle.text_chars.specs.declared.Cursor.{Cursor}
 use Rattle.text_scan.specs.Scan.{EndIs}
-use Rattle.text_marks.specs.Marks.{marksRoom, markC}
-use Rattle.text_marks.specs.Holding.{Held}
+use Rattle.text_elements.specs.Marks.Marks.{marksRoom, markC}
+use Rattle.text_elements.specs.Marks.Holding.{Held}
 use Rattle.text_elements.specs.Model.{finishC}
 use Rattle.text_elements.specs.declared.Path.{Path}
 use Rattle.text_paths.specs.declared.Stop.{Stop}

@@ -6,8 +6,8 @@ use text_chars::Cursor;
 use text_chars::DocAt;
 use text_chars::TextAt;
 use text_elements::Path;
-use text_marks::Verdict;
-use text_segments::SegmentRead;
+use text_elements::marks::Verdict;
+use text_elements::segments::SegmentRead;
 ghost use mathlib.Core.Path.{_≡_};
 ghost use Prim.Native.Nat.{_≤_};
 ghost use lib.ListN.{length};
@@ -15,7 +15,7 @@ ghost use mathlib.Core.Bool.{_&&_};
 ghost use lib.Dec.{eqb};
 ghost use Rattle.rules.specs.Bytes.{byteAt};
 ghost use Rattle.rules.specs.Sizes.{maxDocument};
-ghost use Rattle.text_marks.specs.Marks.{marksRoom};
+ghost use Rattle.text_elements.specs.Marks.Marks.{marksRoom};
 ghost use Rattle.text_paths.specs.Whole.{StopIs, SpaceIs, ClosedIs, ElementsAsked, ElementsIs};
 ghost use Rattle.text_paths.specs.Texts.{EndedIs, PathAsked, PathIs};
 
@@ -90,7 +90,7 @@ fn close_path(p: Path, any: bool, next: Cursor, marks: &mut [usize]) -> Joined
     ensures { λ r. ⌜ ClosedIs p any next (now (marks .entry)) (now (marks .exit)) r ⌝ }
 {
     if any {
-        let q = text_segments::close_element(p, DocAt(0), marks);
+        let q = text_elements::segments::close_element(p, DocAt(0), marks);
         let count = q.count;
         let empty = q.empty;
         Joined::Elements { count, empty, next }
@@ -134,7 +134,7 @@ pub fn elements(s: &[u8], c: Cursor, key: bool, out: &mut [u8], marks: &mut [usi
             Stop::End => {
                 return close_path(p, any, at, marks);
             }
-            Stop::Piece => match text_segments::advance(s, at, from, p, out, marks) {
+            Stop::Piece => match text_elements::segments::advance(s, at, from, p, out, marks) {
                 SegmentRead::Refused { number, place } => {
                     return Joined::Refused { number, place };
                 }
@@ -172,7 +172,7 @@ fn judge_path_text(s: &[u8], count: usize, empty: bool, next: Cursor, marks: &[u
             place: d,
         };
     }
-    match text_marks::judge_path(count, empty, DocAt(0), marks) {
+    match text_elements::marks::judge_path(count, empty, DocAt(0), marks) {
         Verdict::Fine => PathRead::Elements { count },
         Verdict::Refused { number, place } => PathRead::Refused { number, place },
     }

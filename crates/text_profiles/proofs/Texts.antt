@@ -18,8 +18,8 @@ use Rattle.theory.specs.Micrometres.{formNumbers, Answered, exactly, refusal, t
 use Rattle.text_chars.specs.declared.Cursor.{Cursor}
 use Rattle.text_numbers.specs.Contracts.{NumberIs}
 use Rattle.text_numbers.specs.declared.Number.{Number}
-use Rattle.text_micrometres.specs.Contracts.{tooMany, WholeIs, MeasuredIs}
-use Rattle.text_micrometres.specs.declared.Measured.{Measured}
+use Rattle.text_lengths.specs.Micrometres.Contracts.{tooMany, WholeIs, MeasuredIs}
+use Rattle.text_lengths.specs.declared.micrometres.Measured.{Measured}
 use Rattle.rules_profile.specs.Profile.{thousandth, maxBare, editionOf, stepOf, bareLength, writtenLength}
 use Rattle.text_profiles.specs.Contracts.{maxLength, editionAs, LengthIs}
 use Rattle.text_profiles.specs.declared.Edition.{Edition}

@@ -2,11 +2,11 @@
 // Computes: Profile (editionOf, stepOf, bareLength, writtenLength)
 use codes::profiles;
 use codes::units;
+use text_bytes::same_bytes;
 use text_chars::Cursor;
 use text_chars::DocAt;
-use text_micrometres::Measured;
+use text_lengths::micrometres::Measured;
 use text_numbers::Number;
-use text_same::same_bytes;
 ghost use mathlib.Core.Path.{_≡_};
 ghost use mathlib.Core.Option.{some};
 ghost use Prim.Native.Nat.{_≤_};
@@ -69,7 +69,12 @@ pub fn bare_length(s: &[u8], step: u32) -> Length
         Number::End(end) => {
             let e = end.at;
             if e.0 == s.len() {
-                let count = text_micrometres::whole_part(s, DocAt(0), e, units::MICROMETRE);
+                let count = text_lengths::micrometres::whole_part(
+                    s,
+                    DocAt(0),
+                    e,
+                    units::MICROMETRE,
+                );
                 if count <= profiles::MOST_BARE {
                     return Length::TenThousandths(count * step);
                 }

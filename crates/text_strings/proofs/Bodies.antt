@@ -19,7 +19,7 @@ use Rattle.text_chars.specs.declared.DocAt.{DocAt}
 use Rattle.text_chars.specs.declared.Cursor.{Cursor}
 use Rattle.text_runs.specs.Contracts.{stops, Passed, none, on, PlainIs}
 use Rattle.text_runs.specs.Passing.{goes-over, passed-forward}
-use Rattle.text_units.specs.Contracts.{Laid, WriteIs}
+use Rattle.text_bytes.specs.Contracts.{Laid, WriteIs}
 use Rattle.text_escapes.specs.Contracts.{sized}
 use Rattle.text_strings.specs.Contracts.{BodyIs, Turn, closed, more, refused, turnOf, turnAt, PieceFar, PieceIs}
 use Rattle.text_escapes.specs.Answers.{decoded-text, decoded-refusal}
@@ -27,7 +27,7 @@ use Rattle.text_chars.specs.declared.TextLen.{TextLen}
 use Rattle.text_escapes.specs.declared.Quoted.{Quoted}
 use Rattle.text_strings.specs.declared.Piece.{Piece}
 use Rattle.text_chars.specs.Parts.{part, back, part-length, back-length}
-use Rattle.text_units.specs.Buffers.{laid-join}
+use Rattle.text_bytes.specs.Buffers.{laid-join}
 use Rattle.text_strings.proofs.Pieces.{more-is, close-is, bad-is}
 
 -- ---- a body by its pieces

@@ -15,7 +15,7 @@ use Rattle.text_chars.specs.Seen.{Seen, seen, at-end, seen-eq, seen-ne, seen-lt
 use Rattle.text_chars.specs.declared.DocAt.{DocAt}
 use Rattle.text_chars.specs.declared.Cursor.{Cursor}
 use Rattle.text_chars.specs.declared.Step.{Step}
-use Rattle.text_units.specs.Contracts.{Laid, WriteIs}
+use Rattle.text_bytes.specs.Contracts.{Laid, WriteIs}
 use Rattle.text_escapes.specs.Contracts.{sized, TextFar, EscapeIs}
 use Rattle.text_strings.specs.Contracts.{Turn, closed, more, refused, turnOf, turnAt, pieceOf, PieceLaid, PieceFar, PieceIs}
 use Rattle.text_chars.specs.Clash.{clash}

@@ -22,7 +22,7 @@ use Rattle.text_chars.specs.declared.Step.{Step}
 use Rattle.text_escapes.specs.Contracts.{expectScan, ExpectFar, ExpectIs}
 use Rattle.text_runs.specs.Contracts.{Passed, none, on, RawRunIs}
 use Rattle.text_runs.specs.Passing.{goes-over}
-use Rattle.text_units.specs.Contracts.{WriteIs}
+use Rattle.text_bytes.specs.Contracts.{WriteIs}
 use Rattle.text_escapes.specs.Contracts.{sized}
 use Rattle.text_strings.specs.Contracts.{ThreeSays, ThreeIs, RunSays, RunIs, AfterIs, rawFrom, RawIs}
 use Rattle.text_chars.specs.Clash.{clash}

@@ -12,7 +12,7 @@ use Rattle.rules.specs.Characters.{nextPlace}
 use Rattle.rules.specs.Strings.{escapeAt, bodyFrom, threeQuotes, quotesRun, afterQuotes, quotedAt}
 use Rattle.text_chars.specs.Cursor.{doc, cur}
 use Rattle.text_chars.specs.declared.Cursor.{Cursor}
-use Rattle.text_units.specs.Contracts.{Laid}
+use Rattle.text_bytes.specs.Contracts.{Laid}
 use Rattle.text_escapes.specs.Contracts.{sized, Decoded}
 use Rattle.text_escapes.specs.declared.Quoted.{Quoted}
 use Rattle.text_strings.specs.declared.Piece.{Piece}

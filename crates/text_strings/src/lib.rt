@@ -6,6 +6,7 @@ use codes::refusals;
 
 mod triple;
 
+use text_bytes::copy;
 use text_chars::Cursor;
 use text_chars::DocAt;
 use text_chars::Step;
@@ -15,7 +16,6 @@ use text_escapes::Quoted;
 use text_escapes::escape;
 use text_escapes::expect;
 use text_runs::plain_end;
-use text_units::copy;
 use triple::Three;
 use triple::raw;
 use triple::three_quotes;

@@ -2,6 +2,7 @@
 // Computes: Strings
 use codes::bytes;
 use codes::refusals;
+use text_bytes::copy;
 use text_chars::Cursor;
 use text_chars::DocAt;
 use text_chars::Step;
@@ -10,7 +11,6 @@ use text_escapes::Expected;
 use text_escapes::Quoted;
 use text_escapes::expect;
 use text_runs::raw_end;
-use text_units::copy;
 ghost use Prim.Native.Nat.{_-_, _≤_};
 ghost use lib.ListN.{length};
 ghost use Rattle.rules.specs.Sizes.{maxDocument};

@@ -1,7 +1,7 @@
 -- laws: member-addings
 use Rattle.eval_groups.proofs.Objects.{AddInv, member-addings}
 use Prim.Native.Nat.{_-_}
-use Rattle.eval_members.specs.Model.{membersOf}
+use Rattle.eval_nodes.specs.Model.{membersOf}
 use borrow.Author.Needs.{needs}
 use Rattle.eval_groups.proofs.add_members.Statement.{statement}
 use Rattle.eval_groups.proofs.add_members.Tie as tie

@@ -1,7 +1,7 @@
 -- laws: picks
 use Rattle.eval_layers.proofs.Picks.{PickInv, picks}
 use Prim.Native.Nat.{_-_}
-use Rattle.eval_members.specs.Model.{membersOf}
+use Rattle.eval_nodes.specs.Model.{membersOf}
 use Rattle.eval_stack.specs.Model.{entries}
 use Rattle.eval_layers.specs.Model.{pushMembersC}
 use Rattle.eval_layers.specs.Contracts.{walked}

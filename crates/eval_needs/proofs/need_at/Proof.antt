@@ -1,5 +1,5 @@
 -- laws: place-laws
-use Rattle.eval_need_laws.specs.Places.{place-laws}
+use Rattle.eval_settle_laws.specs.Places.{place-laws}
 use borrow.Author.Needs.{needs}
 use Rattle.eval_needs.proofs.need_at.Statement.{statement}
 use Rattle.eval_needs.proofs.need_at.Tie as tie

@@ -1,5 +1,5 @@
 -- laws: element-laws
-use Rattle.eval_need_laws.specs.Elements.{element-laws, element-asks}
+use Rattle.eval_settle_laws.specs.Elements.{element-laws, element-asks}
 use borrow.Author.Needs.{needs}
 use Rattle.eval_needs.proofs.need_of_element.Statement.{statement}
 use Rattle.eval_needs.proofs.need_of_element.Tie as tie

@@ -1,5 +1,5 @@
 -- laws: key-laws
-use Rattle.eval_key_need_laws.specs.Keys.{key-laws, key-layer, key-objects}
+use Rattle.eval_settle_laws.specs.Keys.{key-laws, key-layer, key-objects}
 use borrow.Author.Needs.{needs}
 use Rattle.eval_needs.proofs.need_of_key.Statement.{statement}
 use Rattle.eval_needs.proofs.need_of_key.Tie as tie

@@ -1,5 +1,5 @@
 -- laws: layer-laws
-use Rattle.eval_need_laws.specs.Layers.{layer-laws}
+use Rattle.eval_settle_laws.specs.Layers.{layer-laws}
 use borrow.Author.Needs.{needs}
 use Rattle.eval_needs.proofs.need_of_layer.Statement.{statement}
 use Rattle.eval_needs.proofs.need_of_layer.Tie as tie

@@ -1,5 +1,5 @@
 -- laws: objects-laws
-use Rattle.eval_need_laws.specs.Layers.{objects-laws}
+use Rattle.eval_settle_laws.specs.Layers.{objects-laws}
 use borrow.Author.Needs.{needs}
 use Rattle.eval_needs.proofs.need_of_objects.Statement.{statement}
 use Rattle.eval_needs.proofs.need_of_objects.Tie as tie

@@ -4,6 +4,9 @@ use borrow.Author.Needs.{needs}
 use Rattle.eval_unresolved.proofs.unresolved_value.Statement.{statement}
 use Rattle.eval_unresolved.proofs.unresolved_value.Tie as tie
 
+returns : tie.Need-returns
+returns c = search either-laws
+
 pub unresolved-value-spec : {M : Type 1} → statement M
 unresolved-value-spec =
     tie.close
@@ -13,7 +16,7 @@ unresolved-value-spec =
     (λ c. search needs)
     (λ c. search needs)
     (λ c. search needs)
-    (λ c. search either-laws)
+    returns
     (λ c κs. search needs)
     (λ c. search needs)
     (λ c. search needs)

@@ -8,6 +8,9 @@ check-sheet-requires : tie.Need-check-sheet-requires
 check-sheet-requires c κs =
     sheet-asked (c .before .before .before .before .before .before .before .before .before .before .before .before .parts-fit .ensures) (c .before .before .before .before .before .before .before .before .before .read-task .ensures) (c .before .before .before .before .before .items .given .1) _ _ (search needs) (search needs) (search needs) (search needs) (search needs)
 
+returns : tie.Need-returns
+returns c = search checks
+
 pub check-spec : {M : Type 1} → statement M
 check-spec =
     tie.close
@@ -23,5 +26,5 @@ check-spec =
     (λ c. search needs)
     (λ c. search needs)
     check-sheet-requires
-    (λ c. search checks)
+    returns
     (λ c. search checks))

@@ -4,11 +4,14 @@ use borrow.Author.Needs.{needs}
 use Rattle.text_lengths.proofs.with_rest.Statement.{statement}
 use Rattle.text_lengths.proofs.with_rest.Tie as tie
 
+returns : tie.Need-returns
+returns c = search rests
+
 pub with-rest-spec : {M : Type 1} → statement M
 with-rest-spec =
     tie.close
     (tie.spec
-    (λ c. search rests)
+    returns
     (λ c κs. search needs)
     (λ c κs. search needs)
     (λ c. search needs)

@@ -11,14 +11,14 @@ use Rattle.eval_values.proofs.+elements_value+fields_value+taken_value.
 use Rattle.eval_values.proofs.taken_value.Reads as taken-value
 use Rattle.eval_values.proofs.taken_value.Kinds as taken-value-kinds
 use Rattle.eval_values.proofs.+elements_value+fields_value+taken_value.Lts-taken_value as taken-value-lts
-use Rattle.eval_fields.proofs.elements_end.Reads as elements-end-reads
-use Rattle.eval_fields.proofs.element_taken.Reads as element-taken-reads
-use Rattle.eval_fields.proofs.field_at.Reads as field-at-reads
+use Rattle.eval_value_cases.proofs.elements_end.Reads as elements-end-reads
+use Rattle.eval_value_cases.proofs.element_taken.Reads as element-taken-reads
+use Rattle.eval_value_cases.proofs.field_at.Reads as field-at-reads
 use Rattle.eval_leaves.proofs.behind_head.Reads as behind-head-reads
-use Rattle.eval_origins.proofs.begin_value.Reads as begin-value-reads
-use Rattle.eval_sources.proofs.element_at.Reads as element-at-reads
-use Rattle.eval_worked.proofs.headed.Reads as headed-reads
-use Rattle.eval_worked.proofs.one_more.Reads as one-more-reads
+use Rattle.eval_value_cases.proofs.begin_value.Reads as begin-value-reads
+use Rattle.eval_groups.proofs.sources.element_at.Reads as element-at-reads
+use Rattle.eval_results.proofs.values.headed.Reads as headed-reads
+use Rattle.eval_results.proofs.values.one_more.Reads as one-more-reads
 
 -- what is left to show, a declaration for each need
 

@@ -30,13 +30,13 @@ use Rattle.read_cycle.proofs.+array+element+field+field_value+object+pi
 use Rattle.read_grammar.proofs.turn_at.Reads as turn-at-reads
 use Rattle.text_scan.proofs.after_inline.Reads as after-inline-reads
 use Rattle.text_scan.proofs.gap_at.Reads as gap-at-reads
-use Rattle.read_limits.proofs.piece_start.Reads as piece-start-reads
-use Rattle.read_pieces.proofs.finish_value.Reads as finish-value-reads
-use Rattle.read_limits.proofs.excess_number.Reads as excess-number-reads
+use Rattle.read_grammar.proofs.limits.piece_start.Reads as piece-start-reads
+use Rattle.read_values.proofs.pieces.finish_value.Reads as finish-value-reads
+use Rattle.read_grammar.proofs.limits.excess_number.Reads as excess-number-reads
 use Rattle.read_references.proofs.reference_piece.Reads as reference-piece-reads
 use Rattle.read_steps.proofs.finish_element.Reads as finish-element-reads
 use Rattle.read_steps.proofs.finish_field.Reads as finish-field-reads
-use Rattle.read_pieces.proofs.container_piece.Reads as container-piece-reads
+use Rattle.read_values.proofs.pieces.container_piece.Reads as container-piece-reads
 use Rattle.read_steps.proofs.finish_piece.Reads as finish-piece-reads
 use Rattle.read_steps.proofs.scalar_piece.Reads as scalar-piece-reads
 use Rattle.read_keys.proofs.key.Reads as key-reads

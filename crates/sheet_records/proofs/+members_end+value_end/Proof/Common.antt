@@ -10,10 +10,10 @@ use Rattle.sheet_records.proofs.value_end.Reads as value-end
 use Rattle.sheet_records.proofs.value_end.Kinds as value-end-kinds
 use Rattle.sheet_records.proofs.+members_end+value_end.Lts-value_end as value-end-lts
 use Rattle.text_chars.proofs.record_byte.Reads as record-byte-reads
-use Rattle.sheet_kinds.proofs.after_text.Reads as after-text-reads
-use Rattle.sheet_kinds.proofs.kind_of.Reads as kind-of-reads
-use Rattle.sheet_kinds.proofs.pair_at.Reads as pair-at-reads
-use Rattle.sheet_kinds.proofs.value_start.Reads as value-start-reads
+use Rattle.sheet_records.proofs.kinds.after_text.Reads as after-text-reads
+use Rattle.sheet_records.proofs.kinds.kind_of.Reads as kind-of-reads
+use Rattle.sheet_records.proofs.kinds.pair_at.Reads as pair-at-reads
+use Rattle.sheet_records.proofs.kinds.value_start.Reads as value-start-reads
 
 -- what is left to show, a declaration for each need
 

@@ -1,0 +1,5 @@
+pub mod Contracts
+pub mod Steps
+pub mod Arrays
+pub mod Layers
+pub mod Elements

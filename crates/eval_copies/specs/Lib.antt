@@ -1,5 +1,0 @@
-pub mod Model
-pub mod Contracts
-pub mod Steps
-pub mod Copies
-mod Examples

@@ -1,4 +1,0 @@
-pub mod Contracts
-pub mod Steps
-pub mod Elements
-pub mod Layers

@@ -1,6 +1,0 @@
-pub mod Ground
-pub mod Needs
-pub mod Rooms
-pub mod Layers
-pub mod Elements
-pub mod Places

@@ -1,0 +1,4 @@
+pub mod Model
+pub mod Contracts
+pub mod Members
+pub mod Answer

@@ -1,9 +1,0 @@
--- laws: views
-use Rattle.eval_taken.proofs.Looks.{views}
-use borrow.Author.Needs.{needs}
-use Rattle.eval_taken.proofs.look_layer.Statement.{statement}
-use Rattle.eval_taken.proofs.look_layer.Tie as tie
-
-pub look-layer-spec : {M : Type 1} → statement M
-look-layer-spec =
-    tie.close (tie.spec (λ c κs. search needs) (λ c. search needs) (λ c. search needs) (λ c. search views) (λ c. search views))

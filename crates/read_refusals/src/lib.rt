@@ -1,1 +1,0 @@
-// What the promises of reading say of each refusal: theorems, no code.
