@@ -11,11 +11,10 @@ use Rattle.answers.specs.Theory.Sound.{clash}
 use Rattle.rules.specs.Bytes.{Text}
 use Rattle.rules.specs.Tree.{Pieces, no-pieces, nodePiece, substituted}
 use Rattle.rules.specs.Values.{Answer}
-use Rattle.rules.specs.Settled.{Given, nodeIn, valueIn}
+use Rattle.rules.specs.Settled.{Given}
 use Rattle.rules.specs.Unresolved.{Unresolved}
 use Rattle.rules.specs.Documents.{Setting}
-use Rattle.theory.specs.SettledAnswers.{openIn, substitutionIn}
-use Rattle.theory_order.specs.Skeletons.{restOf, needsPast, needsOf, needsOfAll}
+use Rattle.theory_order.specs.Skeletons.{restOf, needsOf, needsOfAll}
 use Rattle.theory_order.specs.Looking.{pieceIn}
 use Rattle.text_chars.specs.declared.DocAt.{DocAt}
 use Rattle.doc_items.specs.Room.{capacity}
@@ -34,7 +33,7 @@ use Rattle.eval_question_laws.specs.Contracts.{Asked, Questioned}
 use Rattle.eval_question_laws.specs.Standing.{pieces-begin, pieces-end, node-given, reference-given}
 use Rattle.eval_unresolved.specs.Pieces.Contracts.{Behind}
 use Rattle.eval_unresolved.specs.Pieces.Several.{behind-left, inside, behind-next, behind-end}
-use Rattle.eval_ahead.specs.Contracts.{Starts, FirstIs, Found, FinishedAsked, FinishedIs, MissedCase, LackIs, MissedAsked, MissedIs, Passes, here, more, Stops, AheadIs}
+use Rattle.eval_ahead.specs.Contracts.{Starts, FirstIs, Found, FinishedAsked, FinishedIs, MissedCase, LackIs, MissedAsked, MissedIs, Passes, here, more, AheadIs}
 use Rattle.eval_ahead.specs.declared.Lack.{Lack}
 use Rattle.eval_ahead.specs.declared.Awaited.{Awaited}
 use Rattle.eval_ahead.proofs.Finished.{finished-asked}

@@ -1,6 +1,6 @@
 -- What looking ahead says of the newest question's fate: from `AheadIs` to the laws of theory_order (WorkLaws).
 use mathlib.Core.Path.{_≡_, refl, _∙_}
-use Prim.Native.Nat.{ℕ, _+_, _≤_}
+use Prim.Native.Nat.{ℕ, _≤_}
 use mathlib.Core.List.{List}
 use native.Mathlib.Omega.{arith}
 use Rattle.answers.specs.Ask.{Trail, lookup, run}

@@ -10,7 +10,6 @@ use doc_items::WIDTH;
 use doc_items::number_at;
 use eval_environment::Asked;
 use eval_environment::or_environment;
-use eval_layers::Part;
 use eval_layers::Taken;
 use eval_layers::gather;
 use eval_stack::push;

@@ -7,7 +7,7 @@ use Prim.Native.Nat.{ℕ, zero, suc, _+_, _-_, _*_, _≤_, _<_}
 use native.Mathlib.Omega.{arith}
 use lib.ListN.{length, getD, getElem?, set}
 use lib.Seq.{getD-set-same, getD-set-other}
-use Rattle.answers.specs.Ask.{Trail, lookup}
+use Rattle.answers.specs.Ask.{Trail}
 use Rattle.answers.specs.Resolve.{Laid}
 use Rattle.answers.specs.Theory.AheadTurns.{numbers}
 use Rattle.rules.specs.Tree.{Root, fields, elements, rootNode}
@@ -37,7 +37,7 @@ use Rattle.eval_trail.specs.Turns.Contracts.{listRoom, piecesAt, newest, newest
 use Rattle.eval_outcomes.specs.Newest.Contracts.{Goes, NewestAsked, NewestCase, NewestIs}
 use Rattle.eval_outcomes.specs.Refusals.Contracts.{RefusalAsked, Posed}
 use Rattle.eval_question_laws.specs.Work.{Lent, WorkAsked}
-use Rattle.eval_work.proofs.Standing.{goes-same, Going, Listed, listed-set, numbers-length, listed-low, Standing, Come, Newest, Awaited, Due, Pending, Refuses}
+use Rattle.eval_work.proofs.Standing.{goes-same, Listed, listed-set, numbers-length, listed-low, Standing, Come, Pending, Refuses}
 
 -- ---- an unresolved value of the document, by its number
 

@@ -33,7 +33,7 @@ use Rattle.eval_trail.specs.Contracts.{Holding}
 use Rattle.eval_trail.specs.declared.Progress.{Progress}
 use Rattle.eval_trail.specs.Turns.Contracts.{piecesAt}
 use Rattle.eval_unresolved.specs.Pieces.Contracts.{Behind}
-use Rattle.eval_outcomes.specs.Newest.Contracts.{GoesAt, Goes, begins, further}
+use Rattle.eval_outcomes.specs.Newest.Contracts.{Goes, begins, further}
 use Rattle.eval_question_laws.specs.Work.{WorkAsked}
 
 -- ---- a position among the pieces, in a table with the same document

@@ -33,7 +33,7 @@ use Rattle.eval_trail.specs.declared.turns.Next.{Next}
 use Rattle.eval_outcomes.specs.Newest.Contracts.{begins}
 use Rattle.eval_question_laws.specs.Work.{WorkAsked, WorkedOut}
 use Rattle.eval_work.specs.Contracts.{olderC, OlderNeeds}
-use Rattle.eval_work.proofs.Standing.{Going, Listed, listed-set, numbers-length, turnsAt, Standing, Come, Newest, Awaited, Due, Pending, Refuses}
+use Rattle.eval_work.proofs.Standing.{Listed, listed-set, numbers-length, turnsAt, Standing, Come, Newest, Awaited, Due, Pending, Refuses}
 use Rattle.eval_work.proofs.Questions.{listed-one}
 
 -- a question that has just begun is looked at from its first piece on

@@ -1,17 +1,16 @@
 -- Laws of working a question out: of its loop, and of its ends.
 use mathlib.Core.Path.{_≡_, refl, sym, ap, _∙_}
 use mathlib.Core.List.{List, []}
-use Prim.Native.Nat.{ℕ, _-_, _≤_, _<_}
+use Prim.Native.Nat.{ℕ, _≤_, _<_}
 use native.Mathlib.Omega.{arith}
 use lib.ListN.{length, take}
-use Rattle.answers.specs.Ask.{Trail}
 use Rattle.answers.specs.Resolve.{refused}
 use Rattle.answers.specs.Theory.AheadTurns.{numbers, scanned, first-scanned}
 use Rattle.rules.specs.Refusals.{Refusal}
 use Rattle.theory_order.specs.Turns.{stacked-length}
 use Rattle.theory_order.specs.Running.{running-start}
-use Rattle.theory_order.specs.Contracts.{questionsOf, rulesOf, workC}
-use Rattle.theory_order.specs.WorkLaws.{firstIn, work-begins, work-barred}
+use Rattle.theory_order.specs.Contracts.{questionsOf, rulesOf}
+use Rattle.theory_order.specs.WorkLaws.{work-begins, work-barred}
 use Rattle.text_chars.specs.declared.DocAt.{DocAt}
 use Rattle.eval_groups.specs.Contracts.{Below}
 use Rattle.eval_state.specs.Later.{later-same}
@@ -24,7 +23,7 @@ use Rattle.eval_trail.specs.declared.turns.Next.{Next}
 use Rattle.eval_outcomes.specs.Newest.Contracts.{NewestAsked, NewestIs}
 use Rattle.eval_outcomes.specs.Refusals.Contracts.{RefusalAsked, RefusesAs, RefusalIs}
 use Rattle.eval_question_laws.specs.Work.{Lent, WorkAsked, Works, WorkIs}
-use Rattle.eval_work.specs.Contracts.{olderC, OlderAsked, OlderIs}
+use Rattle.eval_work.specs.Contracts.{OlderAsked, OlderIs}
 use Rattle.eval_work.proofs.Standing.{numbers-length, listed-oldest, turnsAt, Come, Pending, Refuses}
 use Rattle.eval_work.proofs.Turns.{turn-asks, turn-some, turn-on, turn-ends, turn-refused}
 use Rattle.eval_work.proofs.Questions.{refusal-posed, refusal-asked, question-asked, question-pends}

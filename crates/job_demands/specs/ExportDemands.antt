@@ -6,12 +6,11 @@
 -- `bits.placeIn r` (dz_place), `bits.documentIn r` (dz_document), `bits.lineIn r` (dz_line), `bits.columnIn r` (dz_column),
 -- `bits.countIn r` (dz_resolve_count) and so on; the sheet handed back is as many bytes of each buffer as they say.
 use mathlib.Core.Path.{_≡_, refl, sym, ap, _∙_}
-use Prim.Native.Nat.{ℕ, _+_, _*_, _≤_}
+use Prim.Native.Nat.{ℕ, _+_, _≤_}
 use mathlib.Core.List.{List}
 use mathlib.Core.Bool.{Bool, true, false, cond}
 use mathlib.Core.Option.{Option, none, some}
 use mathlib.Core.Logic.{_↔_}
-use native.Mathlib.Omega.{arith}
 use lib.ListN.{length, take, replicate}
 use lib.Seq.{slice, take-append-seam}
 use lib.Dec.{eqb}

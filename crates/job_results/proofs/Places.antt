@@ -8,8 +8,8 @@ use lib.Dec.{leb}
 use lib.ListN.{length}
 use borrow.Author.Tests.{lt-leb, le-leb}
 use Rattle.rules.specs.Sizes.{maxDocument}
-use Rattle.rules.specs.Refusals.{documentOf, offsetOf}
-use Rattle.rules.specs.Positions.{lineAt, columnAt, hasPlace, lineOf, columnOf}
+use Rattle.rules.specs.Refusals.{offsetOf}
+use Rattle.rules.specs.Positions.{hasPlace, lineOf, columnOf}
 use Rattle.theory_text.specs.Positions.{line-bound, column-bound}
 use Rattle.text_chars.specs.Positions.{PositionIs}
 use Rattle.text_chars.specs.declared.Position.{Position}

@@ -10,7 +10,6 @@ use borrow.Author.Tests.{eq-eqb, ne-eqb}
 use Rattle.rules.specs.Jobs as J
 use Rattle.text_chars.specs.declared.DocAt.{DocAt}
 use Rattle.rules.specs.Sizes.{maxDocument}
-use Rattle.rules.specs.Refusals.{documentOf}
 use Rattle.rules.specs.Positions.{hasPlace}
 use Rattle.job_results.specs.Places.{packedRefusal}
 use Rattle.job_results.specs.Answers.{Located, resolutionTold, locatedTold, packedResolution, Packable}

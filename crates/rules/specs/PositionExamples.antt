@@ -3,7 +3,6 @@ use mathlib.Core.Path.{_≡_, refl}
 use Prim.Native.Nat.{ℕ}
 use Prim.Native.String.{String}
 use mathlib.Core.List.{List, [], _∷_, _++_, map}
-use mathlib.Core.Option.{some}
 use Rattle.rules.specs.Positions.{lineAt, columnAt}
 use Rattle.rules.specs.Jobs.{Resolved, Verdict, resolveJob, checkJob}
 use Rattle.rules.specs.Cases.{bytes, refusalAt, Case, case, outcome}

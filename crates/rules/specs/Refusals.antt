@@ -70,8 +70,8 @@ documentOf place = place / perDocument
 abbrev pub offsetOf : (place : ℕ) → ℕ
 offsetOf place = place % perDocument
 
--- What a definition gives where its fuel runs out: a number of no job's list, and not 0, which is success. No job gives this refusal (modules
--- ReadingEnds, Resolving and LookUps of `theory`).
+-- What a definition gives where its fuel runs out: a number of no job's list, and not 0, which is success. No job gives this refusal
+-- (modules ReadingEnds, Resolving and LookUps of `theory`).
 abbrev pub spentFuel : ℕ
 spentFuel = 63
 

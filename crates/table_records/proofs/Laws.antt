@@ -19,7 +19,7 @@ use Rattle.sheet_records.specs.Kinds.Kinds.{kindOf, kind-small}
 use Rattle.sheet_records.specs.declared.kinds.End.{End}
 use Rattle.sheet_records.specs.declared.kinds.Kind.{Kind}
 use Rattle.sheet_records.specs.Kinds.Ends.{clash, end-some, end-none, end-as, some-is, none-is, between-is}
-use Rattle.table_records.specs.Skips.{endsAt, skipBy, skipValue, memberFrom, memberAt, nearKey, pastKey}
+use Rattle.table_records.specs.Skips.{endsAt, skipBy, skipValue, memberFrom, memberAt, pastKey}
 
 -- ---- an end
 

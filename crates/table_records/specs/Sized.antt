@@ -1,6 +1,6 @@
 -- Of a sized table, skips by lengths come to the places that the definitions give.
-use mathlib.Core.Path.{_≡_, refl, sym, ap, _∙_}
-use Prim.Native.Nat.{ℕ, suc, _+_, _≤_, _<_}
+use mathlib.Core.Path.{_≡_, refl, ap, _∙_}
+use Prim.Native.Nat.{ℕ, _+_, _≤_, _<_}
 use mathlib.Core.List.{List, [], _∷_, _++_}
 use mathlib.Core.Bool.{Bool, true, false}
 use mathlib.Core.Option.{Option, none, some}
@@ -10,7 +10,7 @@ use lib.Dec.{eqb}
 use lib.ListN.{length, length-append}
 use Rattle.rules.specs.Bytes.{Text, byteAt, same, At}
 use Rattle.rules.specs.Tree.{Scalar, null, boolean, number, string}
-use Rattle.rules.specs.Values.{Value, scalar, arrayOf, objectOf, Values, Members, no-members, member, countValues, countMembers}
+use Rattle.rules.specs.Values.{Value, scalar, arrayOf, objectOf, Members, no-members, member, countValues, countMembers}
 use Rattle.rules.specs.Values.{scalarRecords, textSize, memberTextSizes}
 use Rattle.rules.specs.Sheet.{two, pairAt, textRecord, scalarRecord, texts, memberTexts}
 use Rattle.rules.specs.LookUp.{textAt}

@@ -33,7 +33,7 @@ pub struct EnvAt(pub usize);
 /// How many bytes of an environment.
 pub struct EnvLen(pub usize);
 
-/// A reading place. Cursors come from the start of a text and from steps.
+/// A reading place. Cursors come from the start of a text, from steps, and from the ends of runs of ASCII bytes.
 pub struct Cursor {
     pub at: DocAt,
 }

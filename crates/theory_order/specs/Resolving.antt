@@ -1,12 +1,12 @@
 -- The laws of the code's loops, of one task: where each starts, its rounds, and what they keep.
-use mathlib.Core.Path.{_≡_, refl, sym, ap, _∙_}
+use mathlib.Core.Path.{_≡_, refl, ap}
 use Prim.Native.Nat.{ℕ, _<_}
 use mathlib.Core.Bool.{false}
 use mathlib.Core.List.{List, [], _∷_}
 use mathlib.Core.Option.{Option, none}
 use native.Mathlib.Omega.{arith}
-use Rattle.answers.specs.Ask.{value, missing, run, Trail, lookup}
-use Rattle.answers.specs.Resolve.{answer, after, lay}
+use Rattle.answers.specs.Ask.{value, missing, Trail, lookup}
+use Rattle.answers.specs.Resolve.{answer, after}
 use Rattle.answers.specs.Theory.Sound.{clash, Within}
 use Rattle.answers.specs.Theory.Holds.{Partly, holds-map}
 use Rattle.answers.specs.Theory.Invariant.{Every}
@@ -15,7 +15,6 @@ use Rattle.rules.specs.Refusals.{Refusal}
 use Rattle.rules.specs.Tree.{simple, array, object, unresolved}
 use Rattle.rules.specs.Values.{scalar, arrayOf, objectOf, Answer}
 use Rattle.rules.specs.Layers.{Layer, written, settled, Counted, nothing, one, merged}
-use Rattle.rules.specs.Documents.{ruleOf}
 use Rattle.rules.specs.Jobs.{orderOf}
 use Rattle.rules.specs.Sheet.{trailSize, trailTextSize}
 use Rattle.theory.specs.Numbering.{Prepared}

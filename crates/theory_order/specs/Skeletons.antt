@@ -2,27 +2,25 @@
 -- `answers`). Where there are two at most, nothing is looked for: the rules are run from their start, as often as an answer is missing. To look first
 -- would be dearer there: the first piece is all that is evaluated again.
 use mathlib.Core.Path.{_≡_, refl, sym, subst}
-use Prim.Native.Nat.{ℕ, _+_, _<_, _≤_}
+use Prim.Native.Nat.{ℕ}
 use mathlib.Core.Bool.{Bool, true, false}
 use mathlib.Core.List.{List, [], _∷_}
 use mathlib.Core.Option.{Option, none, some}
-use native.Mathlib.Omega.{arith}
 use lib.ListN.{getElem?}
 use Rattle.answers.specs.Ask.{Ask, done, refused, bind}
 use Rattle.answers.specs.Theory.Sound.{clash}
-use Rattle.answers.specs.Theory.Fuel.{Below}
 use Rattle.answers.specs.Theory.Covers.{Skeleton, Silent, silent-bind, quiet, quiet-below, Covers, covers-quiet, covers-done, covers-piece, Leads, stop, covers-leads, skeletonOf}
 use Rattle.answers.specs.Theory.AheadTurns.{AllBelow}
 use Rattle.rules.specs.Bytes.{Text}
-use Rattle.rules.specs.Refusals.{Refusal, placed, nowhere, spent}
+use Rattle.rules.specs.Refusals.{Refusal, nowhere, spent}
 use Rattle.rules.specs.Environment.{Environment}
-use Rattle.rules.specs.Tree.{string, Substitution, Pieces, no-pieces, nodePiece, substituted, Root, rootNode, heightOf, highestPiece, AllNode, AllPieces}
+use Rattle.rules.specs.Tree.{Pieces, no-pieces, nodePiece, substituted, Root, rootNode, AllNode, AllPieces}
 use Rattle.rules.specs.Values.{Value, scalar, arrayOf, objectOf, Answer, withinSize}
 use Rattle.rules.specs.Layers.{Work, nodeValue}
 use Rattle.rules.specs.Unresolved.{Openness, Unresolved, Join, blank, text, joinedArray, joinedObject, joinValue, joinNothing, joinAnswer, sized, joinPiece, evaluate, substitutionValue, several, answerOf}
 use Rattle.rules.specs.Documents.{Setting, ruleOf, countOf}
 use Rattle.theory.specs.Numbering.{Prepared, numbers-below}
-use Rattle.theory.specs.Ends.{When, ends-below}
+use Rattle.theory.specs.Ends.{ends-below}
 use Rattle.theory.specs.Reach.{Each, each-at, InRange, node-ends}
 use Rattle.theory.specs.Rules.{HomeLow, Listed, top, all-listed, evaluate-ends, substitution-ends}
 

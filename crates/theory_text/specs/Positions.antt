@@ -7,8 +7,7 @@ use native.Mathlib.Omega.{arith}
 use lib.Dec.{ltb}
 use lib.ListN.{length}
 use borrow.Author.Tests.{lt-ltb, le-ltb}
-use Rattle.rules.specs.Bytes.{byteAt}
-use Rattle.rules.specs.Characters.{widthOf, nextPlace, characterAt, isNewline}
+use Rattle.rules.specs.Characters.{nextPlace, characterAt, isNewline}
 use Rattle.rules.specs.Positions.{charactersFrom, charactersBefore, newlinesIn, sinceNewline, lineAt, columnAt, lineBehind, columnBehind}
 use Rattle.theory_text.specs.Choices.{by-test}
 use Rattle.theory_text.specs.Places.{next-forward}

@@ -4,26 +4,22 @@ use Prim.Native.Nat.{ℕ, _+_, _-_, _*_, _≤_, _<_}
 use mathlib.Core.List.{List, []}
 use mathlib.Core.Option.{none}
 use native.Mathlib.Omega.{arith}
-use lib.ListN.{length, getD, set}
-use Rattle.answers.specs.Ask.{Trail, lookup, run, value, missing}
+use lib.ListN.{getD, set}
+use Rattle.answers.specs.Ask.{Trail, lookup, run}
 use Rattle.answers.specs.Theory.AheadTurns.{Fate, fate, fateOf, awaits}
 use Rattle.rules.specs.Bytes.{Text}
 use Rattle.rules.specs.Refusals.{Refusal}
 use Rattle.rules.specs.Tree.{Pieces, no-pieces, nodePiece, substituted, rootNode, heightOf, highestPiece}
 use Rattle.rules.specs.Values.{Answer}
-use Rattle.rules.specs.Settled.{Given}
 use Rattle.rules.specs.Unresolved.{Unresolved}
 use Rattle.rules.specs.Documents.{Setting, ruleOf}
-use Rattle.theory_order.specs.Skeletons.{Needed, needsOf, needsOfAll}
+use Rattle.theory_order.specs.Skeletons.{Needed, needsOf}
 use Rattle.doc_items.specs.Room.{capacity}
 use Rattle.doc_items.specs.Writing.{ReadIs}
-use Rattle.text_chars.specs.declared.DocAt.{DocAt}
-use Rattle.eval_results.specs.declared.extents.Extent.{Extent}
 use Rattle.eval_value_laws.specs.Frames.{left-then}
 use Rattle.eval_results.specs.declared.sizes.Outcome.{Outcome}
-use Rattle.eval_state.specs.State.{State}
 use Rattle.eval_trail.specs.Turns.Contracts.{piecesAt, newestPiece}
-use Rattle.eval_pieces.specs.Cursor.Contracts.{endC, EndIs}
+use Rattle.eval_pieces.specs.Cursor.Contracts.{EndIs}
 use Rattle.eval_question_laws.specs.Contracts.{Asked, Questioned}
 use Rattle.eval_question_laws.specs.Rules.{pieces-height}
 use Rattle.eval_question_laws.specs.Standing.{pieces-begin, pieces-end}
@@ -33,7 +29,7 @@ use Rattle.eval_ahead.specs.Contracts.{Starts, FirstIs, Passes, Stops, AheadCas
 use Rattle.eval_ahead.specs.Fates.{nothing-fate, stops-fate}
 use Rattle.eval_ahead.specs.declared.Awaited.{Awaited}
 use Rattle.eval_unresolved.specs.Contracts.{OutcomeCase, OutcomeIs}
-use Rattle.eval_outcomes.specs.Newest.Contracts.{GoesAt, Goes, begins, further, FromAsked, FromIs, NewestAsked, Awaits, Runs, NewestCase, NewestIs}
+use Rattle.eval_outcomes.specs.Newest.Contracts.{GoesAt, Goes, begins, further, FromAsked, FromIs, NewestAsked, Awaits, NewestCase, NewestIs}
 
 -- ---- pieces behind others
 

@@ -2,11 +2,11 @@
 use mathlib.Core.Path.{_≡_, refl, sym, ap, _∙_}
 use Prim.Native.Nat.{ℕ, suc, _+_, _-_, _≤_, _<_}
 use mathlib.Core.List.{List, [], _∷_}
-use mathlib.Core.Option.{none, some}
+use mathlib.Core.Option.{none}
 use native.Mathlib.Omega.{arith}
 use lib.ListN.{length, getD, take, drop, length-drop}
 use lib.Seq.{drop-cons, getD-take, length-take-le}
-use Rattle.answers.specs.Ask.{Out, value, missing, refused, run, Trail, lookup}
+use Rattle.answers.specs.Ask.{value, missing, refused, run, Trail, lookup}
 use Rattle.answers.specs.Theory.Sound.{clash}
 use Rattle.answers.specs.Theory.Ahead.{prior}
 use Rattle.answers.specs.Theory.AheadTurns.{scanned}
@@ -19,7 +19,6 @@ use Rattle.rules.specs.Documents.{ruleOf}
 use Rattle.rules.specs.Jobs.{orderOf}
 use Rattle.theory_order.specs.Contracts.{Task, rulesOf}
 use Rattle.text_chars.specs.declared.DocAt.{DocAt}
-use Rattle.doc_items.specs.Room.{capacity}
 use Rattle.eval_writer.specs.Contracts.{Room}
 use Rattle.eval_results.specs.declared.extents.Extent.{Extent}
 use Rattle.eval_value_laws.specs.Contracts.{Left}
@@ -30,7 +29,7 @@ use Rattle.eval_trail.specs.Turns.Contracts.{ItemIs}
 use Rattle.eval_question_laws.specs.Contracts.{Asked, Questioned}
 use Rattle.eval_unresolved.specs.Pieces.Several.{again}
 use Rattle.eval_unresolved.specs.Contracts.{OutcomeCase, OutcomeIs}
-use Rattle.eval_outcomes.specs.Refusals.Contracts.{itemAt, RefusalAsked, Posed, RefusesAs, RefusalIs}
+use Rattle.eval_outcomes.specs.Refusals.Contracts.{itemAt, RefusalAsked, Posed, RefusalIs}
 
 -- ---- the questions from one on
 

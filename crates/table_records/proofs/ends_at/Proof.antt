@@ -1,6 +1,5 @@
 -- laws: ends
 use Rattle.table_records.proofs.Laws.{ends}
-use borrow.Author.Needs.{needs}
 use Rattle.table_records.proofs.ends_at.Statement.{statement}
 use Rattle.table_records.proofs.ends_at.Tie as tie
 
