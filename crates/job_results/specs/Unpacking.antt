@@ -19,11 +19,11 @@ use Rattle.job_results.specs.declared.Verdict.{Verdict}
 
 -- ---- the header's functions, with `>> n` as a division and `& mask` as a remainder
 
--- dz_resolve_number, dz_check_number
+-- dz_number
 abbrev pub numberIn : ℕ → ℕ
 numberIn answer = answer % 64
 
--- dz_resolve_place, dz_resolve_document, dz_resolve_line, dz_resolve_column
+-- of resolve: dz_place, dz_document, dz_line, dz_column
 abbrev pub placeIn : ℕ → ℕ
 placeIn answer = cond (eqb (numberIn answer) 0) 0 (answer / 64 % 65536)
 
@@ -52,7 +52,7 @@ tableIn answer = cond (eqb (numberIn answer) 0) (answer / 2147483648 % 65536) 0
 abbrev pub textIn : ℕ → ℕ
 textIn answer = cond (eqb (numberIn answer) 0) (answer / 140737488355328 % 65536) 0
 
--- dz_check_place, dz_check_document, dz_check_line, dz_check_column
+-- of check, which has no bits above a yes: the same
 abbrev pub verdictPlaceIn : ℕ → ℕ
 verdictPlaceIn answer = answer / 64 % 65536
 
