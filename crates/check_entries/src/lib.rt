@@ -1,6 +1,7 @@
 // Entries of a lent trail, held against the rules' answers. Of an entry that was not found right its number alone is read; what was found
 // right is kept for those behind it.
 // Computes: Checking (answer_for, entries_from)
+#![tactic(auto)]
 
 pub mod tables;
 

@@ -2,6 +2,8 @@
 // of all the memory that a job is lent stands at the head of `specs/Room`.
 //
 // Computes: nothing of the rules; `specs/Holds` says which tree of `Tree` a table holds.
+#![tactic(auto)]
+
 ghost use Rattle.doc_items.specs.Writing.{ReadIs, FourAsked, FourIs, ItemAsked, ItemIs};
 ghost use Rattle.doc_items.specs.Room.{number_bound};
 ghost use Rattle.std.specs.Prelude.{◌≡◌, ◌<◌};

@@ -1,5 +1,7 @@
 // The jobs on lent byte slices, exported to C, and the version of the interface to them.
 // Computes: Jobs (resolve_job, buffers_of, check_job, look_up_job, length_job), Profile (profile_job)
+#![tactic(auto)]
+
 ghost use Rattle.std.specs.Prelude.{◌≡◌};
 ghost use Rattle.rules.specs.Jobs.{check_job, look_up_job, length_job};
 ghost use Rattle.job_results.specs.Answers.{packed_verdict};

@@ -1,5 +1,7 @@
 // What the pieces of an unresolved value need, from one on: looked for with no join between them.
 // Computes: the first missing answer of the pieces, as answers' fate
+#![tactic(auto)]
+
 ghost use Rattle.std.specs.Prelude.{◌<◌};
 ghost use Rattle.doc_items.specs.Room.{capacity};
 ghost use Rattle.eval_question_laws.specs.Clauses.{Asked};

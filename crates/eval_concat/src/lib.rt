@@ -2,6 +2,7 @@
 // (11), and the size of the join so far (13)". The join stands in the room for one value; a simple piece's text and an array's members are
 // written behind it, in modules of their own (text, array), by what specs/Clauses says.
 // Computes: Unresolved (join_piece, join_answer)
+#![tactic(auto)]
 
 pub mod array;
 pub mod scalar;

@@ -1,5 +1,6 @@
 // A piece that is one layer, no object, joined to the pieces before it: an array's elements, or the text of a simple value.
 // Computes: Unresolved (join_piece), of what layer_value gives for such a layer
+#![tactic(auto)]
 
 pub mod elements;
 

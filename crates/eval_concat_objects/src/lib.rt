@@ -1,6 +1,7 @@
 // An object piece joined: objects on the stack are merged into the room and joined with what stood there. Writing the piece overwrites the
 // room, so a join that is an object is kept before, as the first of the pair that merges.
 // Computes: Unresolved (join_piece)
+#![tactic(auto)]
 
 pub mod pair;
 

@@ -1,5 +1,6 @@
 // A finished value copied into a value's room with all that is inside it: its records as kept, its texts from where the room has come to.
 // Computes: Sheet
+#![tactic(auto)]
 
 pub mod records;
 pub mod runs;

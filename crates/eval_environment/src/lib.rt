@@ -1,6 +1,8 @@
 // The environment asked for the path of a substitution: "If undefined, the environment is asked for the elements joined by dots". Each of its
 // names is compared with the elements where they stand.
 // Computes: Unresolved (or_environment, dotted)
+#![tactic(auto)]
+
 ghost use Rattle.std.specs.Prelude.{◌≡◌, ◌+◌, ◌-◌, ◌≤◌, length};
 ghost use Rattle.rules.specs.Bytes.{same};
 ghost use Rattle.rules.specs.Unresolved.{dotted};

@@ -2,6 +2,7 @@
 // before it. In front of the stack stands for each key number the place of its first member; nothing there is cleared, so what is left from
 // before is told by a test.
 // Computes: Layers (keys_in_order and deeper, by the model in specs/Model)
+#![tactic(auto)]
 
 pub mod select;
 pub mod sources;

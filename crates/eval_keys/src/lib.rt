@@ -6,6 +6,8 @@
 //   FIRST    of a number the root's first field with it (crate eval_root_index)
 //   NEXT     of a field of the root the next one with its number (crate eval_root_index)
 // Computes: Bytes
+#![tactic(auto)]
+
 ghost use Rattle.std.specs.Prelude.{◌+◌, ◌≤◌, ◌<◌, length};
 ghost use Rattle.doc_items.specs.Room.{capacity};
 ghost use Rattle.eval_keys.specs.Texts.{bucket_count};

@@ -2,6 +2,8 @@
 // them. All are walked at once: the answers do not change meanwhile, and a mark says where a missing one ended the walk. Keys are numbers.
 // The layers one key deeper than those of a part of the stack.
 // Computes: Layers (gather, deeper; by the model in specs/Model)
+#![tactic(auto)]
+
 ghost use Rattle.std.specs.Prelude.{◌≡◌, ◌<◌, ◌-◌};
 ghost use Rattle.doc_items.specs.Room.{number_bound};
 ghost use Rattle.eval_nodes.specs.Clauses.{Few};

@@ -1,5 +1,7 @@
 // Values that need no others: a simple value of the document by its item, a finished value as a whole; and a key before its value.
 // Computes: Settled (node_in of a simple value, layer_in of a finished one), Sheet
+#![tactic(auto)]
+
 ghost use Rattle.std.specs.Prelude.{◌+◌, ◌<◌, ◌≤◌};
 ghost use Rattle.doc_items.specs.Room.{capacity};
 ghost use Rattle.eval_copy.specs.Clauses.{CopyAsked, CopyIs};

@@ -1,6 +1,8 @@
 // The look-back of a substitution, found by going down from the root: at each object literal the field in which the unresolved value
 // stands, as long as its key is the path's next element. A path is given by the key numbers of its elements.
 // Computes: Unresolved (layers_for, by the descent of `theory_back`)
+#![tactic(auto)]
+
 ghost use Rattle.std.specs.Prelude.{◌<◌};
 ghost use Rattle.doc_items.specs.Room.{capacity, number_bound};
 ghost use Rattle.eval_look_back.specs.Clauses.{AroundIs, RootAroundIs, HasKeyIs, Going, LooksBackIs};

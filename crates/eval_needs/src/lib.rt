@@ -1,6 +1,8 @@
 // What is needed before a value can be evaluated: nothing, an answer that is missing, or what the values inside it need. Looking writes nothing
 // but the stack, from where it is free on.
 // Computes: theory_order's settling by levels, one step of it
+#![tactic(auto)]
+
 ghost use Rattle.eval_settle_laws.specs.Needs.{LayerAsked, LayerIs, ObjectsAsked, ObjectsIs};
 ghost use Rattle.eval_settle_laws.specs.Needs.{KeyAsked, KeyIs, ElementAsked, ElementIs, PlaceAsked, PlaceIs};
 

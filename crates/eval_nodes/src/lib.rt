@@ -3,6 +3,7 @@
 // array's or object's how long what is inside is. This crate packs a layer's number and takes it apart. Whatever
 // the tables hold, each look ends with an answer, and each number fits the stack's entries.
 // Computes: Layers (by the model in specs/Model)
+#![tactic(auto)]
 
 pub mod answer;
 

@@ -1,5 +1,6 @@
 // What one piece of an unresolved value comes to before it is written: a text of the environment, or what its layers come to.
 // Computes: Unresolved (substitution_value up to its value), Layers (node_value likewise)
+#![tactic(auto)]
 
 pub mod cursor;
 

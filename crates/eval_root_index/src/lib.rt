@@ -1,6 +1,8 @@
 // The root's fields by key, in two columns of a job's table whose keys are numbered: the first field with a key's number, and from each field
 // the next one with its number.
 // Computes: Layers
+#![tactic(auto)]
+
 ghost use Rattle.std.specs.Prelude.{◌≤◌, ◌<◌};
 ghost use Rattle.doc_items.specs.Room.{capacity};
 ghost use Rattle.eval_keys.specs.Columns.{Room};

@@ -1,6 +1,8 @@
 // The order: what the root's value needs is worked out, one unresolved value after another, as its layers are walked. Nothing is written but
 // the trail; when this is done, no answer that the root's value takes is missing. The list of questions is lent through all levels.
 // Computes: theory_order's settling by levels
+#![tactic(auto)]
+
 ghost use Rattle.std.specs.Prelude.{◌≤◌, length};
 ghost use Rattle.eval_trail.specs.Turns.Contracts.{list_room};
 ghost use Rattle.eval_settle_laws.specs.Clauses.{OneAsked, OneIs, AllAsked, AllIs, RootAsked, RootIs};

@@ -1,6 +1,7 @@
 // What the functions of `eval_settle` promise, and a law for each place where one of them returns. No code.
 // What the functions of `eval_needs` promise, and a law for each place where one of them returns. No code but what they give.
 // A law for each place where `need_of_key` of `eval_needs` returns. No code.
+#![tactic(auto)]
 
 /// What stands in a span.
 #[derive(Drop)]

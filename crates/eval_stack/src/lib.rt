@@ -2,6 +2,8 @@
 // layer and a link to another entry. A picture stands at the head of `specs/Model`.
 //
 // Computes: nothing of the rules.
+#![tactic(auto)]
+
 ghost use Rattle.std.specs.Prelude.{◌<◌, ◌≤◌};
 ghost use Rattle.doc_items.specs.Room.{number_bound};
 ghost use Rattle.eval_stack.specs.Model.{entries, Work};

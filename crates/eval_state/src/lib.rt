@@ -3,6 +3,8 @@
 // the parts that doc_items does not name.
 // The item of an unresolved value, by its number.
 // Computes: Sheet, Documents (unresolved, by the index that read_numbering made)
+#![tactic(auto)]
+
 ghost use Rattle.eval_state.specs.Clauses.{HalfIs, AnswerAsked, AnswerIs, UndefinedAsked, UndefinedIs, PairAsked, PairIs};
 ghost use Rattle.std.specs.Prelude.{◌<◌};
 ghost use Rattle.rules.specs.Sizes.{max_unresolved};

@@ -1,4 +1,5 @@
 // Finished values: laid into the sheet or kept, an entry laid behind the trail, a value held against a lent sheet.
+#![tactic(auto)]
 
 pub mod compare;
 pub mod entries;

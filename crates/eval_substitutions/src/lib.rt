@@ -1,6 +1,7 @@
 // The layers of a substitution's path, on the stack: looking back, those before the field of its unresolved value, level by level; else
 // those of the whole root.
 // Computes: Unresolved (layers_for)
+#![tactic(auto)]
 
 pub mod keys;
 pub mod paths;

@@ -1,6 +1,7 @@
 // The order of working out: an unresolved value that is needed is begun, and when it is answered its entry is laid into the trail and its
 // answer is kept.
 // Computes: Jobs (orderOf), Sheet (trail_fits)
+#![tactic(auto)]
 
 pub mod turns;
 

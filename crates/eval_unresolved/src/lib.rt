@@ -1,5 +1,6 @@
 // What an unresolved value comes to against the answers so far: "One piece keeps its type"; several are joined, "pieces left to right".
 // Computes: Unresolved (answer_of)
+#![tactic(auto)]
 
 pub mod join;
 pub mod pieces;

@@ -2,6 +2,8 @@
 // are gathered. So the cycle of values only writes members.
 // The members of objects and arrays as what their layers come to, before their values are written.
 // Computes: Settled (layer_in, merged_in, counted_in, members_in, node_in; by the relations of eval_value_laws)
+#![tactic(auto)]
+
 ghost use Rattle.std.specs.Prelude.{◌≤◌, ◌<◌};
 ghost use Rattle.eval_stack.specs.Model.{entries};
 ghost use Rattle.eval_value_laws.specs.Clauses.{Asked, TakenIn, OriginIs, BegunIs, FieldIs, ElementTakenIs, ElementsEndIs};

@@ -1,5 +1,7 @@
 // What the functions of `eval_value_cases` and `eval_values` answer and promise, and a law for each place where one of them returns.
 // No code.
+#![tactic(auto)]
+
 use eval_layers::Taken;
 use eval_results::values::Worked;
 use eval_writer::Out;

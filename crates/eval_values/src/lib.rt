@@ -1,6 +1,7 @@
 // The cycle of values: what layers come to, the members of objects and the elements of an array, against the answers so far, written into the
 // value's room, or where an answer is missing. What is undefined leaves the room as it was.
 // Computes: Settled (counted_in, members_in, elements_in; by the relations of eval_value_laws)
+#![tactic(auto)]
 
 pub mod objects;
 

@@ -2,6 +2,8 @@
 // before it. Of the newest, what its pieces miss is worked out first, piece after piece; then it is evaluated once, and laid. So no join is
 // repeated when an answer is missing.
 // Computes: Jobs (orderOf), as theory_order's work
+#![tactic(auto)]
+
 ghost use Rattle.std.specs.Prelude.{◌≤◌, length};
 ghost use Rattle.eval_trail.specs.Turns.Contracts.{list_room};
 ghost use Rattle.eval_question_laws.specs.Work.{WorkAsked, WorkIs};

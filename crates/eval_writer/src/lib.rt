@@ -2,6 +2,7 @@
 // no room is left out and counted on, so that the size is known when the value is there; a text is stored whole or not at all.
 // Texts in a value's room, and records that have one: a number's, a string's and a key's.
 // Computes: Sheet
+#![tactic(auto)]
 
 pub mod copies;
 

@@ -1,5 +1,6 @@
 // The job check: a sheet is held against what the rules give, entry by entry. Nothing of the caller's is written.
 // Computes: Jobs (check_job)
+#![tactic(auto)]
 
 pub mod trails;
 

@@ -1,5 +1,6 @@
 // How resolve and check begin: their inputs are read, and a document is made ready for the evaluator.
 // Computes: Documents (inputs)
+#![tactic(auto)]
 
 pub mod buffers;
 pub mod prepare;

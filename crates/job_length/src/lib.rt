@@ -1,5 +1,7 @@
 // A looked-up value's length: the job, and the 64 bits of its answer that C gets.
 // Computes: Jobs (length_job)
+#![tactic(auto)]
+
 ghost use Rattle.std.specs.Prelude.{◌≡◌};
 ghost use Rattle.rules.specs.Jobs.{record_length, length_job};
 ghost use Rattle.text_lengths.specs.Micrometres.Contracts.{measured_of};

@@ -1,5 +1,7 @@
 // Look-up: the value of a lent table that a path text names, as a part of that table.
 // Computes: Jobs (look_up_job)
+#![tactic(auto)]
+
 ghost use Rattle.std.specs.Prelude.{◌≡◌, ◌≤◌, length};
 ghost use Rattle.rules.specs.Sizes.{max_room, max_path_text};
 ghost use Rattle.rules.specs.Paths.{path_text};

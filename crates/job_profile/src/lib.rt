@@ -1,5 +1,7 @@
 // The profile of a table, in its two editions: the job, and the 64 bits of its answer that C gets.
 // Computes: Profile (profile_job)
+#![tactic(auto)]
+
 ghost use Rattle.std.specs.Prelude.{◌≡◌, [], ◌∷◌};
 ghost use Rattle.rules.specs.LookUp.{member_at};
 ghost use Rattle.rules_profile.specs.Profile.{plate, text_of_kind, text_named, limits_of, first_edition, second_edition, profile_job};

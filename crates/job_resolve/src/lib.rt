@@ -1,5 +1,7 @@
 // The job resolve: the inputs are read, the document is resolved into the rooms of the lent buffers, and what is not used of them is zeroed.
 // Computes: Jobs (resolve_job, buffers_of)
+#![tactic(auto)]
+
 ghost use Rattle.job_results.specs.Clauses.{ResolveIs};
 ghost use Rattle.job_resolve_laws.specs.Clauses.{ResolutionAsked, ResolutionIs};
 

@@ -1,5 +1,7 @@
 // The answers of resolve and check: their cases, where a refusal is, and the 64 bits of them that C gets.
 // Computes: Jobs (Resolved, Verdict), Positions (has_place, lineOf, column_of)
+#![tactic(auto)]
+
 ghost use Rattle.std.specs.Prelude.{◌≡◌};
 ghost use Rattle.rules.specs.Positions.{has_place};
 ghost use Rattle.job_results.specs.Answers.{resolution_told, located_told, packed_resolution, Packable};

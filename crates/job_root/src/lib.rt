@@ -1,6 +1,7 @@
 // The root's value against the answers so far, and what the jobs do with it: check holds it against the lent table, and resolve, whose root is
 // settled then, hands it back.
 // Computes: Unresolved (root_value), Checking (table_accepted), Jobs (resolved)
+#![tactic(auto)]
 
 pub mod output;
 

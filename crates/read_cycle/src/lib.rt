@@ -3,6 +3,8 @@
 // yet, and what stands before it stays.
 //
 // Computes: Reading (arrayAt, object_at, element_at, fieldAt, value_from, pieceAt).
+#![tactic(auto)]
+
 ghost use Rattle.std.specs.Prelude.{◌≡◌, true};
 ghost use Rattle.read_grammar.specs.Decisions.{closes};
 ghost use Rattle.read_cycle.specs.Clauses.{Asked, ArrayIs, ObjectIs, ElementIs, FieldIs, ValueIs};

@@ -2,6 +2,8 @@
 // job is given.
 // Whether the inputs of a job keep their bounds.
 // Computes: Documents (read_tree, read_document, inputs), Reading (read_root)
+#![tactic(auto)]
+
 ghost use Rattle.std.specs.Prelude.{◌≤◌, length};
 ghost use Rattle.doc_items.specs.Room.{table_room, text_room};
 ghost use Rattle.rules.specs.Sizes.{max_items};

@@ -1,6 +1,7 @@
 // Decisions of the grammar that look at a place of a document and write nothing: what begins there, what parts two members of a container,
 // and where a value stands behind its key.
 // Computes: Reading (`start_of`, `parted`, `value_place`), Paths (`starts_include`), Refusals (`not_allowed`)
+#![tactic(auto)]
 
 pub mod limits;
 pub mod roots;

@@ -1,5 +1,7 @@
 // Keys: the path of a key, judged by what it may have, and the place of its value.
 // Computes: Paths, Reading (`field_at` up to the value)
+#![tactic(auto)]
+
 ghost use Rattle.read_keys.specs.Keys.{JudgeKeyAsked, JudgeKeyIs, PathAsked, PathIs, KeyAsked, KeyIs};
 
 use codes::refusals;

@@ -2,6 +2,8 @@
 // items leads from a number to its item.
 //
 // Computes: Tree (number_root), Unresolved (unresolved_in), Documents (limited).
+#![tactic(auto)]
+
 ghost use Rattle.std.specs.Prelude.{◌≡◌, ◌≤◌, ◌<◌, length, set};
 ghost use Rattle.rules.specs.Sizes.{max_unresolved};
 ghost use Rattle.doc_items.specs.Room.{number_bound, capacity, table_room};

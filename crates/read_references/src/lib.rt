@@ -1,6 +1,8 @@
 // Substitutions as pieces of a value: whether each is optional, and its path, whose texts and ends stand in a buffer that the caller
 // lends.
 // Computes: Paths (`substitution_at`)
+#![tactic(auto)]
+
 ghost use Rattle.text_paths.specs.Whole.{ElementsAsked};
 ghost use Rattle.read_references.specs.References.{OpenedAsked, OpenedIs, BraceAsked, BraceIs, BetweenIs};
 ghost use Rattle.read_references.specs.References.{EndsAsked, EndsIs, ReferenceAsked, ReferenceIs};

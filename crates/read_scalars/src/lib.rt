@@ -1,5 +1,7 @@
 // Simple values: what each is by its record, with its text in a buffer that the caller lends.
 // Computes: Pieces
+#![tactic(auto)]
+
 ghost use Rattle.text_pieces.specs.Clauses.{PieceAsked};
 ghost use Rattle.read_scalars.specs.Scalars.{WrittenAsked, WrittenIs, ScalarIs};
 

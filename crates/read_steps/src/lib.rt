@@ -1,6 +1,8 @@
 // The steps of reading that call no other reader: one simple piece, the item of a piece, and the items of a field and of
 // an element.
 // Computes: Reading (`piece_at`, `field_at`, `element_at`, but for what they read by calling themselves)
+#![tactic(auto)]
+
 ghost use Rattle.read_steps.specs.Steps.{ScalarPieceAsked, ScalarPieceIs};
 ghost use Rattle.read_steps.specs.Steps.{PutPieceAsked, PutPieceIs, FinishPieceAsked, FinishPieceIs};
 ghost use Rattle.read_steps.specs.Steps.{FinishFieldAsked, FinishFieldIs, FinishElementAsked, FinishElementIs};

@@ -1,5 +1,6 @@
 // What the pieces of a value come to, by numbers alone: how many there are, what the first is, and whether one is unlike it.
 // Computes: Reading (`judge_value`)
+#![tactic(auto)]
 
 pub mod fields;
 pub mod pieces;

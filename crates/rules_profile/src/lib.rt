@@ -1,1 +1,2 @@
 // Definitions only (specs/): document 02's profile of settings, in its two editions.
+#![tactic(auto)]

@@ -1,6 +1,8 @@
 // The records of a value as kept, one by one: which bytes stand at a place, in the form in which they are kept and in document 01's. They
 // are decided here and stored or compared by the callers.
 // Computes: Sheet
+#![tactic(auto)]
+
 ghost use Rattle.std.specs.Prelude.{◌≡◌, ◌+◌, ◌/◌, ◌%◌, ◌≤◌, ◌<◌, get_or};
 ghost use Rattle.sheet_forms.specs.Model.{member_of, members_c};
 ghost use Rattle.sheet_forms.specs.Clauses.{Wide, ShapeIs, Near, Close, PairIs, EndIs, CountIs};

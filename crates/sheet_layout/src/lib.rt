@@ -1,6 +1,8 @@
 // The value in a room, its records laid into the unused rest of a buffer, kept, or compared with such a rest. Its texts are taken to begin
 // at an offset; each begins where the one before ends, so one running number gives all offsets.
 // Computes: Sheet
+#![tactic(auto)]
+
 ghost use Rattle.std.specs.Prelude.{◌+◌, ◌≤◌, [], ◌∷◌, length};
 ghost use Rattle.sheet_forms.specs.Model.{size_of};
 ghost use Rattle.sheet_layout.specs.Clauses.{Asked, SetIs, EqIs, StoreIs, SameIs, RunLaidIs, LayIs, SameRecordsIs};

@@ -1,6 +1,8 @@
 // The value that a path names in a table: one member after another, then the part of the records that is the value.
 // The answer of look-up: its cases, and the 64 bits of it that C gets.
 // Computes: LookUp (value_named), Jobs (foundAt, Found)
+#![tactic(auto)]
+
 ghost use Rattle.std.specs.Prelude.{◌≤◌, length, ◌≡◌};
 ghost use Rattle.rules.specs.Sizes.{max_room, max_path};
 ghost use Rattle.sheet_records.specs.Kinds.Contracts.{near_room};

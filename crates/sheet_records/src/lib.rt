@@ -1,5 +1,6 @@
 // Records of a table that another lends: where one ends, whether a table is whole, and the value of a key. Any bytes may be lent.
 // Computes: LookUp (after_value, is_whole, member_at)
+#![tactic(auto)]
 
 pub mod kinds;
 

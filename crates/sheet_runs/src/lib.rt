@@ -1,5 +1,7 @@
 // Runs of records of one byte each: null, false, true. What goes over records may pass, count and copy a run without a look at each of them.
 // Computes: Sheet
+#![tactic(auto)]
+
 ghost use Rattle.std.specs.Prelude.{◌≤◌, length};
 ghost use Rattle.sheet_runs.specs.Clauses.{LongerIs, BlockIs, RunIs};
 

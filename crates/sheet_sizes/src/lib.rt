@@ -1,6 +1,8 @@
 // The tests of a value's size and of the rooms: whether a value is within its size (number 13 otherwise), and whether an entry of the
 // trail, and the table, fit theirs (number 14 otherwise). They ask sizes alone.
 // Computes: Values, Sheet
+#![tactic(auto)]
+
 ghost use Rattle.sheet_sizes.specs.Clauses.{WithinIs, Small, EntryFitsIs, TableFitsIs};
 
 use codes::limits;

@@ -1,4 +1,6 @@
 // Bytes moved inside one buffer, to make room for what an edit puts in or to close up what it takes out.
+#![tactic(auto)]
+
 ghost use Rattle.std.specs.Prelude.{◌+◌, ◌≤◌, length};
 ghost use Rattle.table_moves.specs.Clauses.{Moved};
 

@@ -1,6 +1,8 @@
 // Records of a sized table: where a value ends, read off its own record, and the value of a key by skips from member to member. Any bytes
 // may be lent; of a sized table it comes to what the definitions say (specs/Sized).
 // Computes: SizedTables (sized_member)
+#![tactic(auto)]
+
 ghost use Rattle.std.specs.Prelude.{◌≡◌, ◌+◌, ◌≤◌, length};
 ghost use Rattle.rules.specs.Bytes.{same};
 ghost use Rattle.rules.specs.Sizes.{max_room};

@@ -1,5 +1,7 @@
 // What the programs that run vectors share: numbers and parts of a vector on standard input, and numbers and parts on standard output.
 // A number is 4 bytes, high byte first; a part is its length, a number, and then so many bytes.
+#![tactic(auto)]
+
 ghost use Rattle.std.specs.Prelude.{◌≡◌, ◌<◌, length};
 ghost use Rattle.io.specs.Counts.{IsPrefixLen};
 

@@ -2,6 +2,8 @@
 // of the three is a length of 4 bytes, high byte first, and then so many bytes. For each look-up it writes a line
 // 'number place start size kind length' in decimal: `look_up_answer`, and of the part that `look_up` hands back its first
 // byte (of an empty one 0) and its length. A part that is cut off or too long ends the program.
+#![tactic(auto)]
+
 use sheet_paths::Found;
 
 fn print_found(number: usize, place: usize, start: usize, size: usize) {

@@ -3,6 +3,8 @@
 // decimal; else a line '0 items unresolved' and, where the document has at most 64 bytes, a line for the root and each item:
 // 'kind size key text place number', the two texts in hexadecimal, an empty one as '-'. The text of a substitution is that of
 // its path's elements with their ends behind it, 2 bytes each. A part that is cut off or too long ends the program.
+#![tactic(auto)]
+
 ghost use Rattle.std.specs.Prelude.{◌*◌, ◌<◌};
 ghost use Rattle.doc_items.specs.Codes.{width};
 ghost use Rattle.doc_items.specs.Room.{number_bound, capacity};

@@ -4,6 +4,8 @@
 // decimal for a refusal; else a line '0 count trail table text' with the used lengths; where the table has at most 256 bytes, a line
 // with the three used parts in hexadecimal, an empty one as '-'; and a line 'check number place' with what check says of the sheet. Check
 // writes a line 'number place'. A part that is cut off or too long ends the program.
+#![tactic(auto)]
+
 use job_results::{Resolution, Verdict};
 use text_chars::DocAt;
 

@@ -2,6 +2,8 @@
 // Bytes written to a buffer: those of a code point, or of a part of the text.
 // Whether the text at an offset is another text. What is asked for past the end of the texts does not matter.
 // Computes: Bytes, Utf8
+#![tactic(auto)]
+
 ghost use Rattle.std.specs.Prelude.{◌≡◌, ◌-◌, ◌≤◌, ◌<◌, ◌+◌, length};
 ghost use Rattle.rules.specs.Bytes.{same};
 ghost use Rattle.std.proofs.Math.Seq.{slice};

@@ -1,6 +1,8 @@
 // The kinds of offset, which never stand in for each other; and the characters of a text: its bytes, whether they are well-formed
 // UTF-8, and a cursor that goes forward one character at a time.
 // Computes: Bytes, Utf8, Characters, Positions
+#![tactic(auto)]
+
 ghost use Rattle.std.specs.Prelude.{◌≡◌, ◌≤◌, ◌<◌, length};
 ghost use Rattle.rules.specs.Sizes.{max_document};
 ghost use Rattle.rules.specs.Utf8.{continues, lowest, highest, promised, sequence_at, ill_formed};

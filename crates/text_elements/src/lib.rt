@@ -1,5 +1,6 @@
 // The elements of a path so far, by numbers: where an element ends, and whether it is empty. Nothing is written here.
 // Computes: Paths
+#![tactic(auto)]
 
 pub mod marks;
 pub mod segments;

@@ -1,6 +1,8 @@
 // The environment's reader: whether an environment is by its rule, and its entries one by one. An entry is a name that is not empty,
 // then `=`, a text, and a zero byte.
 // Computes: Environment
+#![tactic(auto)]
+
 ghost use Rattle.std.specs.Prelude.{◌≡◌, ◌≤◌, ◌<◌, length};
 ghost use Rattle.rules.specs.Sizes.{max_environment, max_entries};
 ghost use Rattle.rules.specs.Environment.{entries_of};

@@ -1,5 +1,7 @@
 // The escapes of a quoted string.
 // Computes: Strings
+#![tactic(auto)]
+
 mod units;
 
 ghost use Rattle.std.specs.Prelude.{◌≡◌, ◌+◌, ◌-◌, ◌≤◌, ◌<◌, length};

@@ -1,5 +1,6 @@
 // The length that a text writes: a number, whitespace, a unit.
 // Computes: Micrometres (length_of)
+#![tactic(auto)]
 
 pub mod decimals;
 pub mod micrometres;

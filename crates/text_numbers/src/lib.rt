@@ -1,5 +1,7 @@
 // JSON numbers.
 // Computes: Numbers
+#![tactic(auto)]
+
 ghost use Rattle.std.specs.Prelude.{◌≡◌, ◌≤◌, length};
 ghost use Rattle.rules.specs.Sizes.{max_document};
 ghost use Rattle.rules.specs.Numbers.{is_digit, after_digits, after_int, after_fraction, after_sign, after_exponent, after_number};

@@ -1,5 +1,7 @@
 // Paths whole: the elements of a key, a substitution or a path text, and a look-up's path text.
 // Computes: Paths
+#![tactic(auto)]
+
 ghost use Rattle.std.specs.Prelude.{◌≡◌, ◌≤◌, length, ◌&&◌, eqb};
 ghost use Rattle.rules.specs.Bytes.{byte_at};
 ghost use Rattle.rules.specs.Sizes.{max_document};

@@ -1,5 +1,7 @@
 // Simple pieces: strings in quotes, numbers, words and unquoted text.
 // Computes: Pieces
+#![tactic(auto)]
+
 ghost use Rattle.std.specs.Prelude.{◌≡◌, ◌-◌, ◌≤◌, length};
 ghost use Rattle.rules.specs.Sizes.{max_document};
 ghost use Rattle.rules.specs.Bytes.{byte_at};

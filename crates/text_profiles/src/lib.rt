@@ -1,5 +1,7 @@
 // The texts of a profile's settings: its edition, the unit of edition 1, and the lengths of both editions.
 // Computes: Profile (edition_of, step_of, bare_length, written_length)
+#![tactic(auto)]
+
 ghost use Rattle.std.specs.Prelude.{◌≡◌, ◌≤◌, length};
 ghost use Rattle.std.proofs.Math.Option.{some};
 ghost use Rattle.rules.specs.Sizes.{max_document};

@@ -2,6 +2,8 @@
 // byte. Single characters are passed over first, then whole blocks of ASCII. A text may have any bytes: from a byte that is not ASCII
 // on the cursor goes past the whole character, as it does elsewhere.
 // Computes: Strings (body_from, quotes_run)
+#![tactic(auto)]
+
 ghost use Rattle.std.specs.Prelude.{◌≡◌, ◌≤◌, length};
 ghost use Rattle.rules.specs.Sizes.{max_document};
 ghost use Rattle.text_runs.specs.Clauses.{stops, BreaksIs, BlockIs, RunIs, OneIs, PlainIs, RawRunIs};

@@ -1,5 +1,7 @@
 // Scanning that needs no output: whitespace, comments and gaps. A place of a text goes forward by whole characters.
 // Computes: Characters
+#![tactic(auto)]
+
 ghost use Rattle.std.specs.Prelude.{◌≡◌, ◌≤◌, ◌<◌, length};
 ghost use Rattle.rules.specs.Sizes.{max_document};
 ghost use Rattle.rules.specs.Characters.{is_wide_space, is_space, is_inline, starts_comment, after_inline, line_end};

@@ -1,6 +1,8 @@
 // Quoted and triple-quoted strings, decoded into a buffer that the caller lends. Decoding never grows: as much room as there is text
 // left is enough.
 // Computes: Strings
+#![tactic(auto)]
+
 use codes::{bytes, refusals};
 
 mod triple;

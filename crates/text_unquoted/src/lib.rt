@@ -1,5 +1,7 @@
 // Unquoted text, and the words that are pieces of their own.
 // Computes: Pieces
+#![tactic(auto)]
+
 ghost use Rattle.std.specs.Prelude.{◌≡◌, ◌∷◌, [], ◌≤◌, ◌<◌, length};
 ghost use Rattle.answers.specs.Ask.{mem};
 ghost use Rattle.rules.specs.Sizes.{max_document};

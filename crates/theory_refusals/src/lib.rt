@@ -1,1 +1,2 @@
 // Definitions and proofs only (specs/): when each refusal of resolving comes.
+#![tactic(auto)]
