@@ -14,14 +14,14 @@ use sheet_sizes::ENTRY;
 use text_chars::{RecAt, TextAt};
 
 /// How far a sheet was found right: so many bytes of its trail, and of its text part.
-#[derive(Drop)]
+#[derive(Clone, Copy)]
 pub struct Reached {
     pub used: RecAt,
     pub text: TextAt,
 }
 
 /// The number of the next entry.
-#[derive(Drop)]
+#[derive(Clone, Copy)]
 pub enum Next {
     /// It is one of the document's, and has no answer yet.
     Number(usize),
@@ -30,7 +30,7 @@ pub enum Next {
 }
 
 /// What an entry comes to.
-#[derive(Drop)]
+#[derive(Clone, Copy)]
 pub enum Checked {
     /// It is right, and kept; so far the sheet is right then.
     On(Reached),

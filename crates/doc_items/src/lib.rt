@@ -97,7 +97,7 @@ pub const TRAIL: usize = SHEET + limits::ROOM;
 pub const BYTES: usize = TRAIL + limits::ROOM;
 
 /// The numbers of an item.
-#[derive(Drop)]
+#[derive(Clone, Copy)]
 pub struct Item {
     /// what it is
     pub kind: usize,

@@ -15,14 +15,14 @@ use eval_stack::code_at;
 use eval_unresolved::single::{PieceValue, value_of};
 
 /// What one piece misses.
-#[derive(Drop)]
+#[derive(Clone, Copy)]
 pub enum Lack {
     Nothing,
     Needs(usize),
 }
 
 /// What the pieces miss: the question, and the item of the piece that misses it.
-#[derive(Drop)]
+#[derive(Clone, Copy)]
 pub enum Awaited {
     Nothing,
     Needs { question: usize, piece: usize },

@@ -25,7 +25,7 @@ use sheet_forms::HEAD;
 use text_chars::{DocAt, RecAt, TextAt};
 
 /// What the pieces so far have come to.
-#[derive(Drop)]
+#[derive(Clone, Copy)]
 pub enum Kind {
     // nothing defined: the room has the whitespace between them
     Blank,
@@ -38,14 +38,14 @@ pub enum Kind {
 }
 
 /// The join so far.
-#[derive(Drop)]
+#[derive(Clone, Copy)]
 pub struct Join {
     pub kind: Kind,
     pub extent: Extent,
 }
 
 /// The join with one piece more.
-#[derive(Drop)]
+#[derive(Clone, Copy)]
 pub enum Joined {
     So(Join),
     // kinds are mixed: refusal 11 at the piece
@@ -55,7 +55,7 @@ pub enum Joined {
 }
 
 /// The join with an object more.
-#[derive(Drop)]
+#[derive(Clone, Copy)]
 pub enum ObjectJoined {
     So(Join),
     // the join is an object too: the two merge

@@ -8,7 +8,7 @@ use codes::refusals;
 use text_chars::DocAt;
 
 /// The join with one piece more.
-#[derive(Drop)]
+#[derive(Clone, Copy)]
 pub enum JoinStep {
     So(Join),
     // the answer of this question is needed first

@@ -21,7 +21,7 @@ use text_environment::{Parts, entry_at};
 const DOT: u8 = bytes::DOT as u8;
 
 /// What a substitution comes to whose path is undefined.
-#[derive(Drop)]
+#[derive(Clone, Copy)]
 pub enum Asked {
     // a text of the environment
     Text { start: EnvAt, size: EnvLen },
@@ -39,7 +39,7 @@ fn between(from: usize, to: usize) -> usize
 }
 
 // An element of a path beside a name.
-#[derive(Drop)]
+#[derive(Clone, Copy)]
 enum Compared {
     // they agree, and so many bytes of a dot and the name are passed
     Same { used: usize },
@@ -108,7 +108,7 @@ fn is_path(name: &[u8], texts: &[u8], at: TextAt, len: TextLen, count: usize) ->
 }
 
 // What an environment has for a path.
-#[derive(Drop)]
+#[derive(Clone, Copy)]
 enum Found {
     // its text, as a part of the environment
     Text { start: EnvAt, size: EnvLen },

@@ -14,7 +14,7 @@ use eval_nodes::answer::Answered;
 use eval_stack::{code_at, link_at, push};
 
 // What a member shows.
-#[derive(Drop)]
+#[derive(Clone, Copy)]
 enum Seen {
     /// Its answer is undefined.
     Undefined,
@@ -27,7 +27,7 @@ enum Seen {
 }
 
 // One member down a group.
-#[derive(Drop)]
+#[derive(Clone, Copy)]
 enum Descent {
     /// How far the objects go on the stack, and where the member before stands.
     More { top: usize, at: usize },

@@ -18,7 +18,7 @@ use eval_nodes::{Member, View};
 use eval_stack::{code_at, push};
 
 /// Where a walk ended: at the end of the layers, or at an unresolved value that has no answer yet.
-#[derive(Drop)]
+#[derive(Clone, Copy)]
 pub enum Stuck {
     /// All layers were walked.
     No,
@@ -27,14 +27,14 @@ pub enum Stuck {
 }
 
 /// Layers on the stack: how far they go, and how their walk ended.
-#[derive(Drop)]
+#[derive(Clone, Copy)]
 pub struct Walked {
     pub top: usize,
     pub stuck: Stuck,
 }
 
 /// Layers between two places of the stack, and how their walk ended.
-#[derive(Drop)]
+#[derive(Clone, Copy)]
 pub struct Part {
     pub lo: usize,
     pub hi: usize,
@@ -42,7 +42,7 @@ pub struct Part {
 }
 
 /// What layers come to.
-#[derive(Drop)]
+#[derive(Clone, Copy)]
 pub enum Taken {
     /// There is none.
     Nothing,

@@ -4,7 +4,7 @@ ghost use Rattle.std.specs.Prelude.{◌≡◌, ◌<◌};
 ghost use Rattle.eval_nodes.specs.Answer.Model.{answered, answer_room};
 
 /// A node as a layer.
-#[derive(Drop)]
+#[derive(Clone, Copy)]
 pub enum Answered {
     /// The number of a layer: the node's own, or that of the value it was answered with.
     Layer(usize),

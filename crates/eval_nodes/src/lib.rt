@@ -19,7 +19,7 @@ use sheet_forms::{HEAD, WORD, kind_at, record_end};
 use text_chars::RecAt;
 
 /// What a layer is to a path.
-#[derive(Drop)]
+#[derive(Clone, Copy)]
 pub enum View {
     /// No object: it has no members, and covers what is below it.
     Other,
@@ -28,7 +28,7 @@ pub enum View {
 }
 
 /// What stands at a place among an object's members.
-#[derive(Drop)]
+#[derive(Clone, Copy)]
 pub enum Member {
     /// No member more.
     End,

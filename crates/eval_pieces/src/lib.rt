@@ -19,7 +19,7 @@ use eval_substitutions::path_layers;
 use text_chars::{DocAt, EnvAt, EnvLen};
 
 /// What a piece comes to.
-#[derive(Drop)]
+#[derive(Clone, Copy)]
 pub enum Piece {
     // a text of the environment
     Text { start: EnvAt, size: EnvLen },

@@ -12,7 +12,7 @@ use text_chars::{RecAt, TextAt};
 pub const FAR: usize = 4294967296;
 
 /// How far a value is written, and how deep it is nested.
-#[derive(Drop)]
+#[derive(Clone, Copy)]
 pub struct Extent {
     pub out: Out,
     pub deep: usize,

@@ -12,7 +12,7 @@ use sheet_sizes::{Sizes, within_size};
 use text_chars::{DocAt, RecLen, TextLen};
 
 /// What an unresolved value comes to once all that it needs is known.
-#[derive(Drop)]
+#[derive(Clone, Copy)]
 pub enum Answered {
     // a value, in the room
     Value(Extent),
@@ -23,7 +23,7 @@ pub enum Answered {
 }
 
 /// What an unresolved value comes to against the answers so far.
-#[derive(Drop)]
+#[derive(Clone, Copy)]
 pub enum Outcome {
     // its value is in the room, so far and so deep
     Done(Extent),

@@ -9,7 +9,7 @@ use crate::extents::{Extent, clip, length_inside, with_more};
 use eval_writer::{Out, put_head};
 
 /// What a value comes to.
-#[derive(Drop)]
+#[derive(Clone, Copy)]
 pub enum Worked {
     /// It is written so far.
     Done(Extent),
@@ -20,7 +20,7 @@ pub enum Worked {
 }
 
 /// What members come to that are written one behind the other.
-#[derive(Drop)]
+#[derive(Clone, Copy)]
 pub enum Made {
     /// How many there are, and how far they are written.
     Done { count: usize, extent: Extent },

@@ -4,7 +4,7 @@
 #![tactic(auto)]
 
 /// What stands in a span.
-#[derive(Drop)]
+#[derive(Clone, Copy)]
 pub enum Kind {
     /// Elements of an array of the document: places are items.
     Elements,
@@ -13,7 +13,7 @@ pub enum Kind {
 }
 
 /// Places one behind the other, from one to another. The stack is free from `top` on.
-#[derive(Drop)]
+#[derive(Clone, Copy)]
 pub struct Span {
     pub kind: Kind,
     pub from: usize,
@@ -22,7 +22,7 @@ pub struct Span {
 }
 
 /// What is needed before a value can be evaluated.
-#[derive(Drop)]
+#[derive(Clone, Copy)]
 pub enum Need {
     Nothing,
     /// The answer of an unresolved value, which is missing.
@@ -32,7 +32,7 @@ pub enum Need {
 }
 
 /// What is needed at a place, and which place comes then.
-#[derive(Drop)]
+#[derive(Clone, Copy)]
 pub struct Met {
     pub need: Need,
     pub next: usize,

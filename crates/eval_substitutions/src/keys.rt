@@ -11,7 +11,7 @@ use text_chars::{TextAt, TextLen};
 
 /// Where the path of a substitution stands in the texts: its elements one behind the other, so many bytes, and behind them their ends, two
 /// bytes each.
-#[derive(Drop)]
+#[derive(Clone, Copy)]
 pub struct Route {
     pub at: TextAt,
     pub len: TextLen,

@@ -15,7 +15,7 @@ use sheet_sizes::{ENTRY, Sizes};
 use text_chars::{DocAt, RecAt, RecLen, TextAt, TextLen};
 
 /// How much of the trail and of the sheet's text is used, and how many unresolved values were begun.
-#[derive(Drop)]
+#[derive(Clone, Copy)]
 pub struct Progress {
     pub used: RecAt,
     pub text: TextAt,
@@ -23,7 +23,7 @@ pub struct Progress {
 }
 
 /// A step goes on, or ends in the number and the place of a refusal.
-#[derive(Drop)]
+#[derive(Clone, Copy)]
 pub enum Step {
     On(Progress),
     Refused { number: u8, place: DocAt },

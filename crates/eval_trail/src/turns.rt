@@ -17,7 +17,7 @@ pub const LIST: usize = 2 * limits::UNRESOLVED;
 pub const PIECES: usize = limits::UNRESOLVED;
 
 /// After a turn so many questions are in the list, and it has come so far; or the list is empty, or there is a refusal.
-#[derive(Drop)]
+#[derive(Clone, Copy)]
 pub enum Next {
     On { count: usize, at: Progress },
     Ended(Step),

@@ -13,7 +13,7 @@ use eval_writer::{Out, Source, put_string};
 use text_chars::{DocAt, EnvAt, EnvLen, RecAt, TextAt, TextLen};
 
 /// What a piece alone comes to.
-#[derive(Drop)]
+#[derive(Clone, Copy)]
 pub enum PieceValue {
     // its value is in the room, from the start on
     Done(Extent),

@@ -7,7 +7,7 @@ use eval_results::values::Worked;
 use eval_writer::Out;
 
 /// What a value is written from.
-#[derive(Drop)]
+#[derive(Clone, Copy)]
 pub enum Origin {
     /// From nothing: it is undefined.
     Nothing,
@@ -26,7 +26,7 @@ pub enum Origin {
 }
 
 /// How a value begins: what needs no others is written.
-#[derive(Drop)]
+#[derive(Clone, Copy)]
 pub enum Begun {
     /// There is no more to it.
     Ended(Worked),
@@ -37,7 +37,7 @@ pub enum Begun {
 }
 
 /// What is met at an entry of an object's members.
-#[derive(Drop)]
+#[derive(Clone, Copy)]
 pub enum Field {
     /// Nothing to write: no first member of its key, or a key that is undefined.
     Pass,

@@ -5,7 +5,7 @@ use crate::Out;
 use text_chars::RecAt;
 
 /// How far copying has come.
-#[derive(Drop)]
+#[derive(Clone, Copy)]
 pub struct Copied {
     /// the next record
     pub next: RecAt,

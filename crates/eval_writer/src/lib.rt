@@ -17,14 +17,14 @@ use sheet_forms::{WORD, high, low};
 use text_chars::{RecAt, TextAt, TextLen};
 
 /// How far a value is written: the next record and the next text in the room.
-#[derive(Drop)]
+#[derive(Clone, Copy)]
 pub struct Out {
     pub rec: RecAt,
     pub text: TextAt,
 }
 
 /// Where finished values stand in a job's bytes: their records and their texts begin here.
-#[derive(Drop)]
+#[derive(Clone, Copy)]
 pub struct Source {
     pub rec: RecAt,
     pub text: TextAt,

@@ -11,7 +11,7 @@ use job_results::Resolution;
 use text_chars::{RecLen, TextLen};
 
 /// How many bytes of each part are used.
-#[derive(Drop)]
+#[derive(Clone, Copy)]
 pub struct Used {
     pub trail: RecLen,
     pub table: RecLen,

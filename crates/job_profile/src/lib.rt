@@ -16,7 +16,7 @@ use text_chars::{RecAt, TextLen, record_byte};
 use text_profiles::{Edition, Length, bare_length, written_length};
 
 /// What a table's profile comes to.
-#[derive(Drop)]
+#[derive(Clone, Copy)]
 pub enum ProfileRead {
     /// Its edition, and both limits in ten-thousandths of a millimetre.
     Limits {

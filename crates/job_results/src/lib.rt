@@ -12,7 +12,7 @@ use codes::refusals;
 use text_chars::{DocAt, RecLen, TextLen};
 
 /// What resolve comes to.
-#[derive(Drop)]
+#[derive(Clone, Copy)]
 pub enum Resolution {
     /// A sheet: how many unresolved values were begun, and how many bytes of each part are used.
     Done {
@@ -29,7 +29,7 @@ pub enum Resolution {
 }
 
 /// What check says of a sheet.
-#[derive(Drop)]
+#[derive(Clone, Copy)]
 pub enum Verdict {
     /// Yes.
     Accepted,
@@ -38,7 +38,7 @@ pub enum Verdict {
 }
 
 /// Where a refusal is: a document's number, an offset in it, its line and its column. All are 0 where it has no place in a document.
-#[derive(Drop)]
+#[derive(Clone, Copy)]
 pub struct Place {
     pub document: usize,
     pub offset: DocAt,

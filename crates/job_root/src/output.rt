@@ -12,7 +12,7 @@ use sheet_sizes::Sizes;
 use text_chars::{DocAt, RecLen, TextAt, TextLen};
 
 /// Whether the root's value is handed back.
-#[derive(Drop)]
+#[derive(Clone, Copy)]
 pub enum Table {
     /// It is within its size and fits.
     Fits,

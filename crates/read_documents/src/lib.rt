@@ -21,7 +21,7 @@ use text_chars::{DocAt, Ill, TextAt, TextLen, ill_formed};
 // ---- the tree
 
 /// What is counted over all documents that a job reads.
-#[derive(Drop)]
+#[derive(Clone, Copy)]
 pub struct Counters {
     /// how many nestings may still be opened inside a root's
     pub left: usize,
@@ -30,7 +30,7 @@ pub struct Counters {
 }
 
 /// What reading a document's tree gives.
-#[derive(Drop)]
+#[derive(Clone, Copy)]
 pub enum Tree {
     /// The counters behind it; the table and the text part hold it.
     Done { counters: Counters },
@@ -128,7 +128,7 @@ fn read_tree(s: &[u8], counters: Counters, table: &mut [u16], text: &mut [u8]) -
 // ---- the document
 
 /// What reading gives.
-#[derive(Drop)]
+#[derive(Clone, Copy)]
 pub enum Reading {
     /// How many items and how many unresolved values a document has. The table and the text part hold it.
     Done { items: usize, unresolved: usize },

@@ -20,7 +20,7 @@ use text_chars::{Cursor, DocAt};
 use text_unquoted::Letters;
 
 /// What begins at a place of a value.
-#[derive(Drop)]
+#[derive(Clone, Copy)]
 pub enum Start {
     /// an object, and the cursor past its `{`
     Brace(Cursor),
@@ -77,7 +77,7 @@ pub fn not_allowed(s: &[u8], c: Cursor) -> u8
 }
 
 /// What stands where a member of a container, or its closing byte, may stand.
-#[derive(Drop)]
+#[derive(Clone, Copy)]
 pub enum Turn {
     /// the closing byte, and the cursor past it
     Close(Cursor),
@@ -108,7 +108,7 @@ pub fn turn_at(s: &[u8], c: Cursor, closing: u32) -> Turn
 // ---- between members, and between key and value
 
 /// A place further on.
-#[derive(Drop)]
+#[derive(Clone, Copy)]
 pub enum Place {
     /// the cursor there
     At(Cursor),

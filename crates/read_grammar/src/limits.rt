@@ -42,7 +42,7 @@ fn starts_piece(s: &[u8], c: Cursor) -> bool
 }
 
 /// What begins at a place of a value.
-#[derive(Drop)]
+#[derive(Clone, Copy)]
 pub enum Beginning {
     /// an object, and the cursor past its `{`
     Object(Cursor),

@@ -10,7 +10,7 @@ use codes::bytes;
 use text_chars::{Cursor, DocAt};
 
 /// What the root is, with the cursor where its members begin.
-#[derive(Drop)]
+#[derive(Clone, Copy)]
 pub enum Opening {
     /// An object up to its closing byte, which is `NONE` where it has no braces.
     Object { next: Cursor, closing: u32 },
@@ -19,7 +19,7 @@ pub enum Opening {
 }
 
 /// What stands behind the root.
-#[derive(Drop)]
+#[derive(Clone, Copy)]
 pub enum Ending {
     /// Nothing but a gap: the cursor is at the end of the document.
     End(Cursor),

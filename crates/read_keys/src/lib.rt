@@ -12,7 +12,7 @@ use text_paths::Joined;
 
 /// A key that was read and what parts it from its value. The elements' texts stand at the start of the buffer one behind the other, and the
 /// marks have the end and the place of each.
-#[derive(Drop)]
+#[derive(Clone, Copy)]
 pub enum KeyRead {
     /// how many elements it has, and the cursor where its value stands
     Done { count: usize, next: Cursor },

@@ -14,7 +14,7 @@ use doc_items::{COLUMN_NUMBER, COLUMN_PLACE, WIDTH};
 use text_chars::DocAt;
 
 /// The unresolved values of a document.
-#[derive(Drop)]
+#[derive(Clone, Copy)]
 pub enum Count {
     /// How many there are. Each has its number.
     Done { count: usize },

@@ -16,7 +16,7 @@ use text_paths::Joined;
 
 // A substitution that was read. The texts of its path's elements stand at the start of the buffer one behind the other, and behind them
 // the end of each in two bytes.
-#[derive(Drop)]
+#[derive(Clone, Copy)]
 enum ReferenceRead {
     // whether it is optional, how many elements its path has, the size of their texts, and the cursor past it
     Done {
@@ -33,7 +33,7 @@ enum ReferenceRead {
 }
 
 // The first bytes of a substitution: whether it is optional, and the cursor where its path begins.
-#[derive(Drop)]
+#[derive(Clone, Copy)]
 struct Opened {
     optional: bool,
     next: Cursor,
@@ -63,7 +63,7 @@ fn after_brace(s: &[u8], c: Cursor) -> Opened
 }
 
 // The last byte of a substitution.
-#[derive(Drop)]
+#[derive(Clone, Copy)]
 enum Brace {
     // the cursor past it
     Past(Cursor),
@@ -99,7 +99,7 @@ fn close_reference(
 }
 
 // A substitution's path up to its `}`.
-#[derive(Drop)]
+#[derive(Clone, Copy)]
 enum Between {
     // how many elements it has, and the cursor past the `}`
     Done { count: usize, next: Cursor },

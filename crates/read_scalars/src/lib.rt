@@ -10,7 +10,7 @@ use text_chars::{Cursor, DocAt, TextLen};
 use text_pieces::Piece;
 
 /// A simple piece that was read.
-#[derive(Drop)]
+#[derive(Clone, Copy)]
 pub enum ScalarRead {
     /// its kind by its record's number, the cursor past it, and the size of its text, which stands at the start of the buffer
     Done {

@@ -12,7 +12,7 @@ use doc_items::{REQUIRED, STRING, UNRESOLVED};
 use text_chars::DocAt;
 
 /// The pieces of a value so far.
-#[derive(Drop)]
+#[derive(Clone, Copy)]
 pub struct Run {
     /// how many there are
     pub count: usize,
@@ -26,7 +26,7 @@ pub struct Run {
 }
 
 /// What the pieces come to.
-#[derive(Drop)]
+#[derive(Clone, Copy)]
 pub enum Outcome {
     /// a value of a kind, and whether it is a simple one
     Value { kind: usize, simple: bool },

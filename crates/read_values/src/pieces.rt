@@ -12,7 +12,7 @@ use read_grammar::Place;
 use text_chars::{Cursor, DocAt, TextAt, TextLen};
 
 /// Where a reading got to.
-#[derive(Drop)]
+#[derive(Clone, Copy)]
 pub enum Listed {
     /// the cursor there, and how many items there are then
     Done { next: Cursor, items: usize },
@@ -21,7 +21,7 @@ pub enum Listed {
 }
 
 /// A value that was read.
-#[derive(Drop)]
+#[derive(Clone, Copy)]
 pub enum Valued {
     /// the cursor past it, how many items there are then, the kind of its item, and its text if it is a simple one
     Done {
@@ -39,7 +39,7 @@ pub enum Valued {
 }
 
 /// A piece that was read: the cursor past it, how many items there are then, and the numbers of its own item.
-#[derive(Drop)]
+#[derive(Clone, Copy)]
 pub struct PieceItem {
     pub next: Cursor,
     pub items: usize,
@@ -50,7 +50,7 @@ pub struct PieceItem {
 }
 
 /// What was read where a piece of a value may begin.
-#[derive(Drop)]
+#[derive(Clone, Copy)]
 pub enum PieceRead {
     /// a piece
     Done(PieceItem),
@@ -61,7 +61,7 @@ pub enum PieceRead {
 }
 
 /// A value with one piece more.
-#[derive(Drop)]
+#[derive(Clone, Copy)]
 pub enum ValueStep {
     /// the cursor past the piece, how many items there are then, the pieces so far, and how far the text part is used
     More {

@@ -18,7 +18,7 @@ pub const HEAD: usize = 3;
 pub const WORD: usize = 5;
 
 /// The two forms of a value's records.
-#[derive(Drop)]
+#[derive(Clone, Copy)]
 pub enum Form {
     /// a key has its number, an array or object how long what is inside is, as the evaluator reads them
     Kept,
@@ -27,7 +27,7 @@ pub enum Form {
 }
 
 /// What a record has behind its kind.
-#[derive(Drop)]
+#[derive(Clone, Copy)]
 pub enum Shape {
     /// nothing
     Plain,
@@ -40,7 +40,7 @@ pub enum Shape {
 }
 
 /// The bytes of a record.
-#[derive(Drop)]
+#[derive(Clone, Copy)]
 pub enum Record {
     /// none: the end, or a record that is cut short
     End,

@@ -94,7 +94,7 @@ pub fn part_named(table: &[u8], text: &[u8], names: &[u8], marks: &[usize], coun
 }
 
 /// What a path names in a table.
-#[derive(Drop)]
+#[derive(Clone, Copy)]
 pub enum Found {
     /// A value: where it starts in the table's records, and how many bytes of them it takes.
     Part { start: RecAt, size: RecLen },

@@ -21,7 +21,7 @@ pub const OBJECT: u32 = kinds::OBJECT as u32;
 pub const KEY: u32 = kinds::KEY as u32;
 
 /// The place after a record or some, if they are whole.
-#[derive(Drop)]
+#[derive(Clone, Copy)]
 pub enum End {
     /// They end here.
     At(RecAt),
@@ -30,7 +30,7 @@ pub enum End {
 }
 
 /// What a value's record has behind its kind.
-#[derive(Drop)]
+#[derive(Clone, Copy)]
 pub enum Kind {
     /// Nothing: null, false, true.
     Plain,

@@ -9,7 +9,7 @@ use codes::limits;
 use text_chars::{RecLen, TextLen};
 
 /// Bytes of records and bytes of text: what a room has, or what is used of it.
-#[derive(Drop)]
+#[derive(Clone, Copy)]
 pub struct Sizes {
     pub rec: RecLen,
     pub text: TextLen,

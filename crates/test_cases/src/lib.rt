@@ -18,7 +18,7 @@ const SHOWN: usize = 256;
 const REST: u8 = 165;
 
 /// A part of a vector: so many bytes at the start of its room. At the end of the input it is not there.
-#[derive(Drop)]
+#[derive(Clone, Copy)]
 pub struct Part {
     pub bytes: [u8; 40000],
     pub size: usize,

@@ -14,42 +14,42 @@ ghost use Rattle.text_chars.specs.WellFormed.{NotAsciiIs, BlockIs, WellFormedIs}
 use codes::bytes;
 
 /// A place in a document or a path text.
-#[derive(Drop)]
+#[derive(Clone, Copy)]
 pub struct DocAt(pub usize);
 
 /// An offset in records.
-#[derive(Drop)]
+#[derive(Clone, Copy)]
 pub struct RecAt(pub usize);
 
 /// How many bytes of records.
-#[derive(Drop)]
+#[derive(Clone, Copy)]
 pub struct RecLen(pub usize);
 
 /// An offset in text.
-#[derive(Drop)]
+#[derive(Clone, Copy)]
 pub struct TextAt(pub usize);
 
 /// How many bytes of text.
-#[derive(Drop)]
+#[derive(Clone, Copy)]
 pub struct TextLen(pub usize);
 
 /// An offset in an environment.
-#[derive(Drop)]
+#[derive(Clone, Copy)]
 pub struct EnvAt(pub usize);
 
 /// How many bytes of an environment.
-#[derive(Drop)]
+#[derive(Clone, Copy)]
 pub struct EnvLen(pub usize);
 
 /// A reading place. Cursors come from the start of a text, from steps, and from the ends of runs of ASCII bytes.
-#[derive(Drop)]
+#[derive(Clone, Copy)]
 pub struct Cursor {
     pub at: DocAt,
 }
 
 /// A reading place with its line and its column. Reading goes by cursors, whose steps promise both and carry neither; the place of a
 /// refusal is walked to by positions.
-#[derive(Drop)]
+#[derive(Clone, Copy)]
 pub struct Position {
     pub cursor: Cursor,
     pub line: usize,
@@ -57,7 +57,7 @@ pub struct Position {
 }
 
 /// What stands at a cursor. A character is its code point.
-#[derive(Drop)]
+#[derive(Clone, Copy)]
 pub enum Step {
     // a character, and the cursor past it
     Char { ch: u32, next: Cursor },
@@ -66,7 +66,7 @@ pub enum Step {
 }
 
 /// Whether a text is well-formed UTF-8.
-#[derive(Drop)]
+#[derive(Clone, Copy)]
 pub enum Ill {
     // it is
     Nowhere,

@@ -13,7 +13,7 @@ use text_chars::{DocAt, TextAt, TextLen};
 
 /// The elements of a path so far. The texts of all of them stand one behind the other in a lent buffer; the end of each and the place of
 /// its first byte, in a table of marks.
-#[derive(Drop)]
+#[derive(Clone, Copy)]
 pub struct Path {
     /// how many elements are whole
     pub count: usize,

@@ -41,7 +41,7 @@ pub fn place_at(marks: &[usize], n: usize) -> DocAt
 }
 
 /// How a path is judged at its end.
-#[derive(Drop)]
+#[derive(Clone, Copy)]
 pub enum Verdict {
     /// it has elements, none of them empty without quotes, and no more than it may have
     Fine,

@@ -70,7 +70,7 @@ fn split(s: &[u8], from: DocAt, to: DocAt, p: Path, out: &mut [u8], marks: &mut 
 // ---- one piece more
 
 /// What one piece more makes of a path.
-#[derive(Drop)]
+#[derive(Clone, Copy)]
 pub enum SegmentRead {
     /// the path with the piece, and the cursor past it
     More { path: Path, next: Cursor },

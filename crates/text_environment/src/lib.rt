@@ -12,7 +12,7 @@ use codes::{bytes, limits};
 use text_chars::{EnvAt, Ill, env_byte, ill_formed};
 
 // Where a name or a text ends.
-#[derive(Drop)]
+#[derive(Clone, Copy)]
 enum Stop {
     // at its `=` or its zero byte
     At(EnvAt),
@@ -21,7 +21,7 @@ enum Stop {
 }
 
 /// The entry at a place.
-#[derive(Drop)]
+#[derive(Clone, Copy)]
 pub enum Parts {
     // the places of its `=` and its zero byte
     Whole { equals: EnvAt, zero: EnvAt },

@@ -16,7 +16,7 @@ use text_chars::{Cursor, DocAt, Step, TextLen};
 use units::{Unit, hex_four, is_high, is_low, pair};
 
 /// A string, or an escape of one, that was decoded into a buffer.
-#[derive(Drop)]
+#[derive(Clone, Copy)]
 pub enum Quoted {
     // how many bytes of text it has, and the cursor past it
     Text { next: Cursor, used: TextLen },
@@ -25,7 +25,7 @@ pub enum Quoted {
 }
 
 /// A character that is asked for at a cursor.
-#[derive(Drop)]
+#[derive(Clone, Copy)]
 pub enum Expected {
     // it is there, and this is the cursor past it
     Found { next: Cursor },
@@ -57,7 +57,7 @@ pub fn expect(s: &[u8], c: Cursor, ch: u32, first: DocAt) -> Expected
 }
 
 // The code point of an escape.
-#[derive(Drop)]
+#[derive(Clone, Copy)]
 enum CodePoint {
     // a character, and the cursor past its escape
     Is { ch: u32, next: Cursor },
@@ -121,7 +121,7 @@ const BACKSPACE: u8 = 8;
 const FORM_FEED: u8 = 12;
 
 // What a one-letter escape stands for.
-#[derive(Drop)]
+#[derive(Clone, Copy)]
 enum Letter {
     // there is no such escape
     Not,

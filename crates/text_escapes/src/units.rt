@@ -25,7 +25,7 @@ const LAST_LOW: u32 = 0xDFFF;
 const FIRST_PAIR: u32 = 0x10000;
 
 /// A character as a hexadecimal digit.
-#[derive(Drop)]
+#[derive(Clone, Copy)]
 pub enum Hex {
     // it is none
     Not,
@@ -34,7 +34,7 @@ pub enum Hex {
 }
 
 /// A code unit of four hexadecimal digits.
-#[derive(Drop)]
+#[derive(Clone, Copy)]
 pub enum Unit {
     // its value, and the cursor past it
     Value { unit: u32, next: Cursor },

@@ -13,7 +13,7 @@ use text_scan::look;
 
 /// A decimal number: whether it has a minus, and the places of its first digit, after its digits before the dot, and after it. A length's
 /// text is read as a document is, by a cursor, and these are places in that text alone.
-#[derive(Drop)]
+#[derive(Clone, Copy)]
 pub struct Decimal {
     pub minus: bool,
     pub first: DocAt,
@@ -22,7 +22,7 @@ pub struct Decimal {
 }
 
 /// Whether a text begins with a number.
-#[derive(Drop)]
+#[derive(Clone, Copy)]
 pub enum Start {
     /// It does.
     Number(Decimal),
@@ -31,7 +31,7 @@ pub enum Start {
 }
 
 /// The unit at a text's end.
-#[derive(Drop)]
+#[derive(Clone, Copy)]
 pub enum UnitRead {
     /// One of so many micrometres.
     Micrometres(u32),

@@ -11,7 +11,7 @@ use codes::{bytes, refusals, units};
 use text_chars::{DocAt, byte_at};
 
 /// A length, or why there is none.
-#[derive(Drop)]
+#[derive(Clone, Copy)]
 pub enum Measured {
     /// So many micrometres.
     Micrometres(u32),
@@ -20,7 +20,7 @@ pub enum Measured {
 }
 
 /// What the digits behind the dot come to.
-#[derive(Drop)]
+#[derive(Clone, Copy)]
 pub enum Fraction {
     /// So many micrometres, and nothing left over.
     Micrometres(u32),

@@ -13,7 +13,7 @@ use text_chars::Cursor;
 use text_scan::look;
 
 /// Whether a number stands at a place.
-#[derive(Drop)]
+#[derive(Clone, Copy)]
 pub enum Number {
     // none
     Missing,

@@ -18,7 +18,7 @@ use text_elements::segments::SegmentRead;
 // ---- all pieces
 
 // What stands at a place of a path.
-#[derive(Drop)]
+#[derive(Clone, Copy)]
 enum Stop {
     // in a key a `$`, which is refused at once
     Dollar,
@@ -54,7 +54,7 @@ fn stop_at(s: &[u8], c: Cursor, key: bool) -> Stop
 }
 
 /// The elements of a path up to the first byte that starts no further piece.
-#[derive(Drop)]
+#[derive(Clone, Copy)]
 pub enum Joined {
     /// how many there are, whether one is empty and without quotes, and the cursor there
     Elements {
@@ -151,7 +151,7 @@ pub fn elements(s: &[u8], c: Cursor, key: bool, out: &mut [u8], marks: &mut [usi
 // ---- path texts
 
 /// A look-up's path text.
-#[derive(Drop)]
+#[derive(Clone, Copy)]
 pub enum PathRead {
     /// how many elements it has
     Elements { count: usize },

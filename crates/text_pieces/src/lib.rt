@@ -15,7 +15,7 @@ use text_numbers::Number;
 use text_unquoted::Word;
 
 /// A simple piece that was read, with the cursor past it.
-#[derive(Drop)]
+#[derive(Clone, Copy)]
 pub enum Piece {
     // in quotes, once or three times: so many bytes of text, written to a lent buffer
     Quoted { next: Cursor, used: TextLen },
@@ -28,7 +28,7 @@ pub enum Piece {
 }
 
 // What a simple piece begins with.
-#[derive(Drop)]
+#[derive(Clone, Copy)]
 enum Lead {
     // a quote
     Quote,

@@ -15,7 +15,7 @@ use text_lengths::micrometres::Measured;
 use text_numbers::Number;
 
 /// The edition that a file names.
-#[derive(Drop)]
+#[derive(Clone, Copy)]
 pub enum Edition {
     /// 1.
     First,
@@ -26,7 +26,7 @@ pub enum Edition {
 }
 
 /// A length that a text writes, if it does.
-#[derive(Drop)]
+#[derive(Clone, Copy)]
 pub enum Length {
     /// So many ten-thousandths of a millimetre.
     TenThousandths(u32),

@@ -80,7 +80,7 @@ fn blocks_end(s: &[u8], c: Cursor, least: u8, other: u8) -> Cursor
 }
 
 // The character at a cursor, if a run goes over it.
-#[derive(Drop)]
+#[derive(Clone, Copy)]
 enum One {
     // it does, and this is the cursor past it
     Past(Cursor),

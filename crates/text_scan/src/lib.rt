@@ -12,7 +12,7 @@ use codes::{bytes, spaces};
 use text_chars::{Cursor, DocAt, Step};
 
 /// The character at a place, `bytes::NO_CHARACTER` at the end, and the place after it, which at the end is the end.
-#[derive(Drop)]
+#[derive(Clone, Copy)]
 pub struct Seen {
     pub ch: u32,
     pub next: Cursor,
@@ -230,14 +230,14 @@ fn line_end(s: &[u8], c: Cursor) -> Cursor
 }
 
 /// A gap: the place after it, and whether a newline was in it.
-#[derive(Drop)]
+#[derive(Clone, Copy)]
 pub struct Gap {
     pub next: Cursor,
     pub newline: bool,
 }
 
 // Whether a gap goes on.
-#[derive(Drop)]
+#[derive(Clone, Copy)]
 enum Passed {
     // the gap with some characters of whitespace or one comment more
     On(Gap),

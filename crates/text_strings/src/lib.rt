@@ -19,7 +19,7 @@ use text_runs::plain_end;
 use triple::{Three, raw, three_quotes};
 
 // A piece of a quoted string's body, with the cursor past it.
-#[derive(Drop)]
+#[derive(Clone, Copy)]
 enum Piece {
     // its closing quote
     Close { next: Cursor },

@@ -11,7 +11,7 @@ use text_escapes::{Expected, Quoted, expect};
 use text_runs::raw_end;
 
 // Whether three quotes stand at a cursor.
-#[derive(Drop)]
+#[derive(Clone, Copy)]
 pub enum Three {
     // they do, and this is the cursor past them
     Past(Cursor),
@@ -36,7 +36,7 @@ pub fn three_quotes(s: &[u8], c: Cursor) -> Three
 }
 
 // The first run of three quotes or more.
-#[derive(Drop)]
+#[derive(Clone, Copy)]
 enum Run {
     // where it begins
     At(Cursor),

@@ -133,7 +133,7 @@ pub fn starts_simple(s: &[u8], c: Cursor) -> bool
 }
 
 /// Whether certain letters stand here.
-#[derive(Drop)]
+#[derive(Clone, Copy)]
 pub enum Letters {
     // they do, and this is the place after them
     Yes(Cursor),
@@ -198,7 +198,7 @@ pub fn spells_include(s: &[u8], c: Cursor) -> Letters
 }
 
 /// The word that unquoted text starts with, and the place after it.
-#[derive(Drop)]
+#[derive(Clone, Copy)]
 pub enum Word {
     // `true`
     True(Cursor),
