@@ -1,0 +1,26 @@
+use Rattle.eval_unresolved.proofs.pieces.Joining.{loop-laws}
+use Rattle.eval_unresolved.proofs.pieces.join_pieces.Goals as goal
+
+pub loop-i-init : goal.loop-i-init
+loop-i-init c = search loop-laws
+
+pub join_next-requires : goal.join_next-requires
+join_next-requires c = search loop-laws
+
+pub returns-in-Needs : goal.returns-in-Needs
+returns-in-Needs c = search loop-laws
+
+pub returns-in-Refused : goal.returns-in-Refused
+returns-in-Refused c = search loop-laws
+
+pub next_piece-i-requires : goal.next_piece-i-requires
+next_piece-i-requires c = search loop-laws
+
+pub loop-i-smaller : goal.loop-i-smaller
+loop-i-smaller c = search loop-laws
+
+pub loop-i-preserved : goal.loop-i-preserved
+loop-i-preserved c = search loop-laws
+
+pub returns : goal.returns
+returns c = search loop-laws

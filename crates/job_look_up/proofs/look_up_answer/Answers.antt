@@ -1,0 +1,20 @@
+use Rattle.job_look_up.proofs.Answers.{jobs}
+use Rattle.job_look_up.proofs.look_up_answer.Goals as goal
+
+pub returns-then-table-gt-ROOM : goal.returns-then-table-gt-ROOM
+returns-then-table-gt-ROOM c = search jobs
+
+pub returns-then-text-gt-ROOM : goal.returns-then-text-gt-ROOM
+returns-then-text-gt-ROOM c = search jobs
+
+pub returns-then-path-gt-PATH_TEXT : goal.returns-then-path-gt-PATH_TEXT
+returns-then-path-gt-PATH_TEXT c = search jobs
+
+pub returns-in-At : goal.returns-in-At
+returns-in-At c = search jobs
+
+pub returns-in-Nowhere : goal.returns-in-Nowhere
+returns-in-Nowhere c = search jobs
+
+pub returns-else-is_whole : goal.returns-else-is_whole
+returns-else-is_whole c = search jobs

@@ -1,0 +1,18 @@
+use Rattle.job_profile.proofs.Profiles.{firsts, root-value, step_small}
+use borrow.Author.Rules.{rules}
+use Rattle.job_profile.proofs.first_edition.Goals as goal
+
+pub member_text-requires : goal.member_text-requires
+member_text-requires c = search (rules, root-value)
+
+pub bare_length-low-requires : goal.bare_length-low-requires
+bare_length-low-requires c = search (rules, step_small)
+
+pub bare_length-high-requires : goal.bare_length-high-requires
+bare_length-high-requires c = search (rules, step_small)
+
+pub returns-in-Missing : goal.returns-in-Missing
+returns-in-Missing c = search firsts
+
+pub returns-in-TenThousandths : goal.returns-in-TenThousandths
+returns-in-TenThousandths c = search firsts

@@ -1,0 +1,15 @@
+use Rattle.job_resolve_laws.specs.Settled.{settle-asked, hand-asked, resolution-refused, resolution-done}
+use borrow.Author.Rules.{rules}
+use Rattle.job_resolve.proofs.resolution.Goals as goal
+
+pub settle_root-requires : goal.settle_root-requires
+settle_root-requires c = (search settle-asked, search rules)
+
+pub hand_root-requires : goal.hand_root-requires
+hand_root-requires c = hand-asked c.before.before.before.before.before.before.before.before.before.before.before.before.before.before.before.before.before.before.before.before.before.before.before.before.before.before.before.before.before.before.before.before.before.before.requires c.settle_root.ensures (search rules) (search rules) _ _ (search rules) (search rules) (search rules)
+
+pub returns-in-Refused : goal.returns-in-Refused
+returns-in-Refused c = resolution-refused c.before.before.before.before.before.before.before.before.before.before.before.before.before.before.before.before.before.before.before.before.before.before.before.before.before.before.before.before.requires c.settle_root.ensures (search rules) (search rules)
+
+pub returns-in-On : goal.returns-in-On
+returns-in-On c = resolution-done c.before.before.before.before.before.before.before.before.before.before.before.before.before.before.before.before.before.before.before.before.before.before.before.before.before.before.before.before.before.before.before.before.before.before.before.before.before.before.before.before.before.requires c.settle_root.ensures (search rules) (search rules) c.hand_root.ensures

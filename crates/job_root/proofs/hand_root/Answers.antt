@@ -1,0 +1,17 @@
+use Rattle.job_root.proofs.Hands.{roots}
+use Rattle.job_root.proofs.hand_root.Goals as goal
+
+pub root_value-requires : goal.root_value-requires
+root_value-requires c = search roots
+
+pub hand_back-requires : goal.hand_back-requires
+hand_back-requires c = search roots
+
+pub returns-in-Done : goal.returns-in-Done
+returns-in-Done c = search roots
+
+pub returns-in-Undefined : goal.returns-in-Undefined
+returns-in-Undefined c = search roots
+
+pub returns-in-Needs : goal.returns-in-Needs
+returns-in-Needs c = search roots

@@ -1,0 +1,36 @@
+use Rattle.sheet_forms.proofs.Forms.{end-laws}
+use borrow.Author.Rules.{rules}
+use Rattle.sheet_forms.proofs.record_end.Goals as goal
+
+record-end-spec =
+    tie.close
+    (tie.spec
+    (λ c κs. search rules)
+    (λ c κs. search rules)
+    (λ c. search rules)
+    (λ c. search rules)
+    (λ c. search rules)
+    (λ c. search rules)
+    (λ c. search rules)
+    (λ c. search rules)
+    (λ c. search rules)
+    (λ c. search rules)
+    (λ c κs. search rules)
+    (λ c. search rules)
+    (λ c. search rules)
+    (λ c. search end-laws)
+    (λ c. search end-laws)
+    (λ c. search end-laws)
+    returns-4)
+
+pub returns-in-Plain : goal.returns-in-Plain
+returns-in-Plain c = search end-laws
+
+pub returns-in-Word : goal.returns-in-Word
+returns-in-Word c = search end-laws
+
+pub returns-in-Key : goal.returns-in-Key
+returns-in-Key c = search end-laws
+
+pub returns-in-Head : goal.returns-in-Head
+returns-in-Head c = search end-laws

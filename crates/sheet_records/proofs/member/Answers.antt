@@ -1,0 +1,14 @@
+use Rattle.sheet_records.proofs.Keys.{objects}
+use Rattle.sheet_records.proofs.member.Goals as goal
+
+pub pair_at-count-requires : goal.pair_at-count-requires
+pair_at-count-requires c = search objects
+
+pub member_from-requires : goal.member_from-requires
+member_from-requires c = search objects
+
+pub returns-then-record_byte-eq-OBJECT : goal.returns-then-record_byte-eq-OBJECT
+returns-then-record_byte-eq-OBJECT c = search objects
+
+pub returns : goal.returns
+returns c = search objects

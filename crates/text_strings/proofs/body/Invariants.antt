@@ -1,0 +1,10 @@
+use Prim.Native.Nat.{◌-◌}
+use lib.ListN.{length}
+use Rattle.text_strings.proofs.Bodies.{BodyLoop}
+use Rattle.text_strings.proofs.body.Given as goal
+
+abbrev pub invariant-loop-number : goal.invariant-loop-number
+invariant-loop-number l = BodyLoop l.s l.initial.at.at.0 l.initial.out l.at.at.0 l.out l.used
+
+abbrev pub decreases-loop-number : goal.decreases-loop-number
+decreases-loop-number l = length l.s - l.at.at.0
