@@ -270,7 +270,7 @@ split-sized m e [] h = record { sized = omega arith }
 split-sized m e (g ∷ gs) h =
     by-test (Sized m) g.in_quotes
     (λ q. split-sized m (grown e g.text true) gs (omega (arith, length-append e.text g.text)))
-    (λ q. text-sized (total gs + 1) m e g.place g.text (λ x. split_from x gs) (λ x. split-sized _ x gs (omega arith)) (omega arith))
+    (λ q. text-sized (total gs + 1) m e g.place g.text (λ x. split_from x gs) (λ x. split-sized (length x.text + (total gs + 1)) x gs (omega arith)) (omega arith))
 
 pub elements-short : (gs : List Segment) → sizes (elements_of gs) + length (elements_of gs) ≤ total gs + 1
 unfolding elements_of sizes total

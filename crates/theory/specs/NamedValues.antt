@@ -169,6 +169,8 @@ module _ (table text : List ℕ) where
           → Placed (elim m as (λ m. Option Value) [ none ↦ none | some w ↦ value_at path w ]) (value_named table text (key ∷ path) at)
       go none none e nothing ih = rw (named_none table text key path at e) nothing
       go (some w) (some p) e (placed_at t) ih = rw (named-next table text key path at p e) (ih w p t)
+      go none (some p) e x ih = elim x [ ]
+      go (some w) none e x ih = elim x [ ]
 
   module _ (path : List Text) (v : Value) (at : ℕ) (s : Stands table text v at) where
     -- a path that names a value finds it
@@ -179,6 +181,8 @@ module _ (table text : List ℕ) where
             → (p : ℕ) × (value_named table text path at ≡ some p) × Stands table text w p
         go none none f g nothing = clash (cc)
         go (some w') (some p) f g (placed_at t) = (p, f, subst (λ u. Stands table text u p) (some_one g) t)
+        go none (some p) f g x = elim x [ ]
+        go (some w') none f g x = elim x [ ]
 
     -- and one that names nothing finds nothing
     pub named-missing : value_at path v ≡ none → value_named table text path at ≡ none
@@ -187,3 +191,5 @@ module _ (table text : List ℕ) where
         go : (m : Option Value) (o : Option ℕ) → value_named table text path at ≡ o → m ≡ none → Placed m o → value_named table text path at ≡ none
         go none none f g nothing = f
         go (some w') (some p) f g (placed_at t) = clash (cc)
+        go none (some p) f g x = elim x [ ]
+        go (some w') none f g x = elim x [ ]
