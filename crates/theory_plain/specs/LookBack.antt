@@ -8,8 +8,9 @@ use Rattle.rules.specs.Bytes.{Text}
 use Rattle.rules.specs.Tree.{Key, Fields, Root, root_node}
 use Rattle.rules.specs.Layers.{Layers, end, named, deeper, walk_path}
 use Rattle.rules.specs.Unresolved.{Unresolved, Openness, field_openness, unresolved_in, behind, forward, layers_for}
-use Rattle.theory_back.specs.Descent.{down_node, seen-node}
-use Rattle.theory_back.specs.Openness.{openness-of}
+use Rattle.theory_back.specs.Descent.{down_node}
+use Rattle.theory_back.proofs.Descent.{seen-node}
+use Rattle.theory_back.proofs.Openness.{openness-of}
 
 -- a field that is entered: its key, and the fields of its literal before it
 pub record Entered : Type 0 where
