@@ -56,7 +56,7 @@ fn read_full(rt: &HostRuntime, buf: &mut [u8]) -> io::Result<usize>
 {
     let mut done = 0;
     while done < buf.len() {
-        let n = rt.stdin().read(&mut buf[done..])?;
+        let n = Read::read(&mut rt.stdin(), &mut buf[done..])?;
         if n == 0 {
             return Ok(done);
         }
