@@ -1,5 +1,5 @@
 -- The laws of one piece more.
-use mathlib.Core.Path.{◌≡◌, refl, sym, ◌∙◌, ap}
+use mathlib.Core.Path.{◌≡◌, refl, sym, ◌∙◌, ap, subst}
 use mathlib.Core.Bool.{Bool, true, false, not, ◌||◌}
 use mathlib.Core.List.{[]}
 use mathlib.Core.Option.{Option, none, some}
@@ -13,7 +13,7 @@ use Rattle.rules.specs.Reading.{Part, node, substitution, with_part, Kind, simpl
 use Rattle.doc_items.specs.Codes.{code_of, reference_code}
 use Rattle.doc_items.specs.Joining.{Simples, join_pieces}
 use Rattle.text_chars.specs.declared.DocAt.{DocAt}
-use Rattle.read_values.specs.Runs.{KindIs, piece_count, odd_place, RunOf, GroupIs, AddIs}
+use Rattle.read_values.specs.Runs.{KindIs, piece_count, odd_place, RunOf, FirstIs, GroupIs, AddIs}
 use Rattle.read_values.specs.declared.Run.{Run}
 
 -- ---- kinds
@@ -115,7 +115,7 @@ unfolding join_pieces piece_count has_substitution
 behind run r no_pieces qs o b = absurd (b.some-before o.count)
 behind run r (node_piece place gap n ps) qs o b = record {
   count = omega (arith, b.count, o.count, b.one, count-join ps qs);
-  first = rw b.kind o.first;
+  first = subst (λ (k : ℕ). FirstIs (node_piece place gap n ps) k) (sym b.kind) o.first;
   subs = b.subs ∙ ap (λ (t : Bool). t || has_substitution qs) o.subs ∙ sym (subs-either ps qs);
   odd =
       b.odd n o.first.1 ∙ ap (λ (t : Option ℕ). earlier t (unlike (kind_of n) qs)) o.odd
@@ -124,7 +124,7 @@ behind run r (node_piece place gap n ps) qs o b = record {
 }
 behind run r (substituted gap x ps) qs o b = record {
   count = omega (arith, b.count, o.count, b.one, count-join ps qs);
-  first = rw b.kind o.first;
+  first = subst (λ (k : ℕ). FirstIs (substituted gap x ps) k) (sym b.kind) o.first;
   subs = b.subs ∙ ap (λ (t : Bool). t || has_substitution qs) o.subs;
   odd = tt;
   plain = simples-join (substituted gap x ps) qs o.plain b.plain;

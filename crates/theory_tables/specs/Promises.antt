@@ -284,6 +284,8 @@ module _ (table text path : List ℕ) (v : Value) (lent : Lent table text) (tree
                 subst (λ (z : Value). slice p.1 (p.1 + sized_size z) table ≡ sized_records offset z) i
                     (rw (sized-length offset u) at (slice_at (sized_records offset u) a)),
               )
+          go none (some p) h x6 e = elim x6 [ ]
+          go (some u) none h x5 e = elim x5 [ ]
 
       -- and what it does not name is 16
       pub sized-missing : value_at names v ≡ none → look_up_sized_job table text path ≡ not_found (nowhere 16)
@@ -294,6 +296,8 @@ module _ (table text path : List ℕ) (v : Value) (lent : Lent table text) (tree
               → look_up_sized_job table text path ≡ not_found (nowhere 16)
           go none none h nothing e = e
           go (some u) (some p) h (placed offset a b) e = clash (cc)
+          go none (some p) h x6 e = elim x6 [ ]
+          go (some u) none h x5 e = elim x5 [ ]
 
     named-alike : (names : List Text) (end : ℕ) → path_names path ≡ ok names end
         → Alike (look_up_sized_job table text path) (look_up_job (records 0 v) text path)

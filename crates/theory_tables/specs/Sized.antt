@@ -224,3 +224,5 @@ module _ (table text : List ℕ) where
           → Placed (elim o as (λ _. Answer) [ none ↦ none | some w ↦ value_at ks w ]) (located_then l (λ w p. sized_named ks p w))
       go none none nothing ih = nothing
       go (some w) (some p) (placed o a b) ih = ih w o p.1 a b
+      go none (some p) x6 ih = elim x6 [ ]
+      go (some w) none x6 ih = elim x6 [ ]

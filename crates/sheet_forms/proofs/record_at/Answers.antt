@@ -1,32 +1,5 @@
 use Rattle.sheet_forms.proofs.Forms.{record-laws}
-use borrow.Author.Rules.{rules}
 use Rattle.sheet_forms.proofs.record_at.Goals as goal
-
-record-at-spec =
-    tie.close
-    (tie.spec
-    (λ c. search record-laws)
-    (λ c. search rules)
-    (λ c κs. search rules)
-    (λ c. search rules)
-    (λ c. search rules)
-    (λ c. search rules)
-    (λ c κs. search rules)
-    (λ c. search rules)
-    (λ c κs. search rules)
-    (λ c. search rules)
-    (λ c κs. search rules)
-    (λ c. search rules)
-    (λ c. search rules)
-    (λ c κs. search rules)
-    (λ c. search rules)
-    (λ c κs. search rules)
-    returns-2
-    (λ c. search record-laws)
-    (λ c. search record-laws)
-    (λ c. search record-laws)
-    (λ c. search record-laws)
-    (λ c. search record-laws))
 
 pub returns-then-len-p : goal.returns-then-len-p
 returns-then-len-p c = search record-laws

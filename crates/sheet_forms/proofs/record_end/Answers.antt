@@ -1,27 +1,5 @@
 use Rattle.sheet_forms.proofs.Forms.{end-laws}
-use borrow.Author.Rules.{rules}
 use Rattle.sheet_forms.proofs.record_end.Goals as goal
-
-record-end-spec =
-    tie.close
-    (tie.spec
-    (λ c κs. search rules)
-    (λ c κs. search rules)
-    (λ c. search rules)
-    (λ c. search rules)
-    (λ c. search rules)
-    (λ c. search rules)
-    (λ c. search rules)
-    (λ c. search rules)
-    (λ c. search rules)
-    (λ c. search rules)
-    (λ c κs. search rules)
-    (λ c. search rules)
-    (λ c. search rules)
-    (λ c. search end-laws)
-    (λ c. search end-laws)
-    (λ c. search end-laws)
-    returns-4)
 
 pub returns-in-Plain : goal.returns-in-Plain
 returns-in-Plain c = search end-laws
