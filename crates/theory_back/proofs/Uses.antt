@@ -10,10 +10,14 @@ use Rattle.rules.specs.Documents.{Document}
 use Rattle.theory.specs.Numbering.{Prepared}
 use Rattle.rules.specs.Settled.{Settled, no, flat, walk_in}
 use Rattle.theory.specs.SettledAnswers.{open_in, forward_in, layers_in, flat-layers-for}
-use Rattle.theory_back.specs.Openness.{openness_at, openness-of}
-use Rattle.theory_back.specs.LookBack.{below_in, look_back_in, settled_by, settled-look}
-use Rattle.theory_back.specs.Passes.{looks_back, forward-both}
-use Rattle.theory_back.specs.OwnKey.{own_key, Apart, own-key}
+use Rattle.theory_back.specs.Openness.{openness_at}
+use Rattle.theory_back.proofs.Openness.{openness-of}
+use Rattle.theory_back.specs.LookBack.{below_in, look_back_in, settled_by}
+use Rattle.theory_back.proofs.LookBack.{settled-look}
+use Rattle.theory_back.specs.Passes.{looks_back}
+use Rattle.theory_back.proofs.Passes.{forward-both}
+use Rattle.theory_back.specs.OwnKey.{own_key, Apart}
+use Rattle.theory_back.proofs.OwnKey.{own-key}
 
 module _ (d : Document) (P : Prepared d) (b : ℕ) (u : Unresolved) (e : get_elem? d.unresolved b ≡ some u) where
   openness-is : openness_at d.root b ≡ u.openness
