@@ -15,7 +15,7 @@ use Rattle.doc_items.specs.Parts.{numbers}
 use Rattle.doc_items.specs.Writing.{ReadIs}
 use Rattle.theory_back.specs.LookBack.{Left, onward}
 use Rattle.theory_back.specs.Passes.{below_one, looks_back, onward-same, onward-other, onward-end, onward-off}
-use Rattle.theory_back.specs.OwnKey.{own-key}
+use Rattle.theory_back.proofs.OwnKey.{own-key}
 use Rattle.eval_keys.specs.Columns.{keys_at}
 use Rattle.eval_root_index.specs.Documents.{member-kind}
 use Rattle.eval_look_back.specs.Ranges.{Number}

@@ -12,7 +12,8 @@ use Rattle.rules.specs.Tree.{Key, Node, object, Fields, field, Root, root_node, 
 use Rattle.doc_items.specs.Codes.{object_item, unresolved_item, as_member, kind_at, size_at, number_at, next_at}
 use Rattle.theory_back.specs.Numbers.{FromNode}
 use Rattle.theory_back.specs.LookBack.{Left, onward, look_back}
-use Rattle.theory_back.specs.Passes.{looks_back, looks-within, looks-some, back-both, dropped, shorter, onward-same, onward-other, onward-off}
+use Rattle.theory_back.specs.Passes.{looks_back, dropped, onward-same, onward-other, onward-off}
+use Rattle.theory_back.proofs.Passes.{looks-within, looks-some, back-both, shorter}
 use Rattle.eval_keys.specs.Texts.{by_equal}
 use Rattle.eval_look_back.specs.Ranges.{NodeIn, FieldsIn}
 use Rattle.eval_look_back.specs.Passing.{Spans}

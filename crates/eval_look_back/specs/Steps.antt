@@ -4,7 +4,8 @@ use Rattle.std.proofs.Math.Path.{refl, sym, ap}
 use Rattle.std.proofs.Common.{subst, ◌∙◌, arith}
 use Rattle.rules.specs.Tree.{Key, Node, simple, array, object, unresolved, Fields, no_fields, Root, root_node}
 use Rattle.doc_items.specs.Codes.{object_item, unresolved_item, as_member, kind_at, size_at, number_at, next_at}
-use Rattle.theory_back.specs.Descent.{count_fields, down_node, down_fields, step-around, down-here, down-piece, off-node, keeps-entered}
+use Rattle.theory_back.specs.Descent.{count_fields, down_node, down_fields, step-around, down-here, down-piece, off-node}
+use Rattle.theory_back.proofs.Descent.{keeps-entered}
 use Rattle.theory_back.specs.Numbers.{FromNode, FromFields}
 use Rattle.eval_keys.specs.Texts.{by_equal}
 use Rattle.eval_look_back.specs.Ranges.{code-small, NodeIn, FieldsIn, in-pieces}

@@ -8,7 +8,8 @@ use Rattle.doc_items.specs.Codes.{size_at, number_at}
 use Rattle.doc_items.specs.Holds.{TextAt}
 use Rattle.doc_items.specs.Parts.{numbers, letters}
 use Rattle.theory_back.specs.LookBack.{Left}
-use Rattle.theory_back.specs.Passes.{looks_back, looks-some}
+use Rattle.theory_back.specs.Passes.{looks_back}
+use Rattle.theory_back.proofs.Passes.{looks-some}
 use Rattle.eval_keys.specs.Numbers.{Numbered, number_of}
 use Rattle.eval_keys.specs.Clauses.{FindIs}
 use Rattle.eval_keys.specs.Documents.{key-tells, key-found}

@@ -16,7 +16,7 @@ use Rattle.rules.specs.Documents.{Setting}
 use Rattle.theory.specs.Depths.{height_in, shallow-within}
 use Rattle.theory.specs.Room.{length-weighs, elements-weigh}
 use Rattle.theory.specs.SettledAnswers.{HomeIn, open_in, layers_in, or_environment_in, substitution_in}
-use Rattle.theory_back.specs.Uses.{layers-of}
+use Rattle.theory_back.proofs.Uses.{layers-of}
 use Rattle.doc_items.specs.Codes.{number_at}
 use Rattle.doc_items.specs.Parts.{numbers}
 use Rattle.eval_stack.specs.Model.{entries, seg, seg-length}

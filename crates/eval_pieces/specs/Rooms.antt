@@ -16,8 +16,9 @@ use Rattle.theory.specs.Room.{length-weighs, deeper-weighs, walk-weighs}
 use Rattle.theory.specs.SettledAnswers.{open_in, layers_in}
 use Rattle.doc_items.specs.Codes.{number_at}
 use Rattle.doc_items.specs.Parts.{numbers}
-use Rattle.theory_back.specs.Passes.{looks-within, dropped}
-use Rattle.theory_back.specs.Uses.{layers-of}
+use Rattle.theory_back.specs.Passes.{dropped}
+use Rattle.theory_back.proofs.Passes.{looks-within}
+use Rattle.theory_back.proofs.Uses.{layers-of}
 use Rattle.eval_keys.specs.Numbers.{number_of}
 use Rattle.eval_stack.specs.Model.{entries}
 use Rattle.eval_memory.specs.Keys.{Means, number-means}

@@ -17,8 +17,9 @@ use Rattle.theory.specs.SettledAnswers.{open_in, forward_in, layers_in}
 use Rattle.doc_items.specs.Codes.{number_at}
 use Rattle.doc_items.specs.Parts.{numbers}
 use Rattle.theory_back.specs.LookBack.{below_in, look_back_in, settled_by}
-use Rattle.theory_back.specs.Passes.{looks-within, dropped, forward-both}
-use Rattle.theory_back.specs.Uses.{layers-of}
+use Rattle.theory_back.specs.Passes.{dropped}
+use Rattle.theory_back.proofs.Passes.{looks-within, forward-both}
+use Rattle.theory_back.proofs.Uses.{layers-of}
 use Rattle.eval_stack.specs.Model.{entries}
 use Rattle.eval_memory.specs.Finished.{Memory, Stored}
 use Rattle.eval_memory.specs.Tables.{WrittenAt, Tables}

@@ -15,7 +15,8 @@ use Rattle.rules.specs.Weights.{weight_of, weight_of_fields, weigh}
 use Rattle.theory.specs.Room.{deeper-weighs}
 use Rattle.doc_items.specs.Codes.{number_at, next_at}
 use Rattle.doc_items.specs.Parts.{numbers, letters}
-use Rattle.theory_back.specs.LookBack.{carried, look-carried, below_in, look_back_in}
+use Rattle.theory_back.specs.LookBack.{carried, below_in, look_back_in}
+use Rattle.theory_back.proofs.LookBack.{look-carried}
 use Rattle.theory_back.specs.Passes.{looks_back}
 use Rattle.theory_back.specs.Room.{Stacked, below_on, Within, within-field, earlier-weighs}
 use Rattle.eval_nodes.specs.Model.{members_of}

@@ -7,7 +7,7 @@ use Rattle.rules.specs.Sizes.{max_room}
 use Rattle.rules.specs.Refusals.{number_of, place_of}
 use Rattle.rules.specs.Jobs.{Result, refused_with}
 use Rattle.theory_order.specs.Clauses.{settle_root_c}
-use Rattle.theory_order.specs.Whole.{root-refused}
+use Rattle.theory_order.proofs.Whole.{root-refused}
 use Rattle.text_chars.specs.declared.DocAt.{DocAt}
 use Rattle.eval_writer.specs.Clauses.{Room}
 use Rattle.eval_stack.specs.Model.{work_room}

@@ -14,7 +14,8 @@ use Rattle.rules.specs.Jobs.{handed_back}
 use Rattle.theory.specs.Resolving.{laid-within, root_of}
 use Rattle.theory.specs.SettledAnswers.{run-root-of}
 use Rattle.theory_order.specs.Clauses.{Task, tree_of, KeptOf}
-use Rattle.theory_order.specs.Whole.{resolved_of, root-answered}
+use Rattle.theory_order.specs.Whole.{resolved_of}
+use Rattle.theory_order.proofs.Whole.{root-answered}
 use Rattle.sheet_kept.specs.Kept.{named}
 use Rattle.eval_results.specs.declared.extents.Extent.{Extent}
 use Rattle.eval_results.specs.declared.values.Worked.{Worked}

@@ -59,15 +59,7 @@ reordered-accepted d e budget l m n ok trail table text p = (
   λ y. reordering-in-order d e _ _ _ trail table text p (approval-inv d e trail table text y),
 )
 
--- "Refusal exactly": with budget 256 and full-size buffers resolve refuses if and only if check says yes to no sheet at all for that document
--- and environment.
-pub refused-exactly : (document environment : List ℕ)
-    → (Succeeds (resolve_in_full document environment) → ⊥)
-    ↔ ((trail table text : List ℕ) → Yes (check_job document environment trail table text) → ⊥)
-refused-exactly d e = (
-  λ refuses trail table text y. refuses (accepted-resolves d e trail table text y).0,
-  λ never ok. never _ _ _ (resolved-accepted d e 256 32768 32768 32768 ok),
-)
+-- The fourth of the five, "Refusal exactly", follows from the first two: `refused-exactly` of proofs/Demands.antt.
 
 -- "Count": on success the count is the number of entries in the trail handed back, read off its bytes.
 pub count-is : (document environment : List ℕ) (budget trail_length table_length text_length : ℕ)

@@ -44,7 +44,7 @@ use Rattle.theory.specs.JobRefusals.{GoodInputs, resolving_numbers, Bounds, bad,
 use Rattle.theory.specs.JobRefusals.{stopped, succeeded, outcome, resolve-unread, zeroed, refused-short, valid-short}
 use Rattle.theory.specs.JobRefusals.{lent_bounds, Judgement, read, not-accepted, judgement, lent-true, lent-short}
 use Rattle.theory.specs.JobRefusals.{Step, long, broken, bad-path, nothing, something, step}
-use Rattle.theory.specs.Demands.{Succeeds, Yes, resolved-accepted}
+use Rattle.theory.specs.Demands.{Succeeds, Yes}
 
 -- ---- words
 
@@ -420,13 +420,7 @@ accepted-look-up d e trail table text y S v laid path names end short well good-
         let (at, o, f, s, t) = sheets.look-up-named table text v table_is path names end short well good-path w q in
         rw f (record { offset = o; handed = refl; its-records = s; its-texts = t })
 
--- so it does in every table that resolve hands back, where the value is the one that resolving comes to (`resolved-is`)
-pub resolved-look-up : (document environment : List ℕ) (budget trail_length table_length text_length : ℕ)
-    → let r = resolve_job document environment budget trail_length table_length text_length in
-    Succeeds r → (S : Trail Answer) (v : Value) → LaidOut S v r.trail r.table r.text
-    → (path : List ℕ) (names : List Text) (end : ℕ) → length path ≤ max_path_text → ill_formed path ≡ none → path_text path ≡ ok names end
-    → FoundIn r.table r.text (look_up_job r.table r.text path) (value_at names v)
-resolved-look-up d e budget l m n done' S v laid = accepted-look-up d e _ _ _ (resolved-accepted d e budget l m n done') S v laid
+-- So it does in every table that resolve hands back: `resolved-look-up` of proofs/Promises.antt.
 
 -- ---- lengths (document 02, No. 3)
 

@@ -6,5 +6,4 @@ pub mod Passes
 pub mod OwnKey
 pub mod Numbers
 pub mod Room
-pub mod Uses
 pub mod Examples

@@ -1,4 +1,4 @@
--- The order of working out as the code will do it; the main theorem is `code-resolves` of module Whole.
+-- The order of working out as the code will do it; the main theorem is `code-resolves` of proofs/Whole.antt.
 
 -- of any questions: a walk by parts, a computation made ready, a question worked out by turns, and what holds at each turn
 pub mod Walks
@@ -12,9 +12,8 @@ pub mod Settle
 pub mod Settling
 pub mod Fitting
 pub mod Levels
--- of the code: settling by levels, that it is the same, what contracts cite, the laws of the code's branches, the whole job
+-- of the code: settling by levels, what contracts cite, the laws of the code's branches, the whole job
 pub mod Code
-pub mod Coding
 pub mod Clauses
 pub mod Resolving
 pub mod WorkLaws

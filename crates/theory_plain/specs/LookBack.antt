@@ -1,15 +1,13 @@
 -- Looking back as one function of the root and a value: the fields that are entered on the way from the root to it tell the path of its
--- field and the layers before that field. `rules` has both at hand as it lists the unresolved values (Unresolved).
-use Rattle.std.specs.Prelude.{◌≡◌, refl, ℕ, List, [], ◌∷◌, ◌++◌}
-use Rattle.std.proofs.Common.{sym, ap, ◌∙◌}
+-- field and the layers before that field. `rules` has both at hand as it lists the unresolved values (Unresolved). That both are
+-- the same is shown in proofs/LookBack.antt.
+use Rattle.std.specs.Prelude.{ℕ, List, [], ◌∷◌, ◌++◌}
 use Rattle.std.proofs.Math.Option.{Option, none, some}
-use Rattle.std.proofs.Math.ListN.{get_elem?}
 use Rattle.rules.specs.Bytes.{Text}
 use Rattle.rules.specs.Tree.{Key, Fields, Root, root_node}
 use Rattle.rules.specs.Layers.{Layers, end, named, deeper, walk_path}
-use Rattle.rules.specs.Unresolved.{Unresolved, Openness, field_openness, unresolved_in, behind, forward, layers_for}
-use Rattle.theory_back.specs.Descent.{down_node, seen-node}
-use Rattle.theory_back.specs.Openness.{openness-of}
+use Rattle.rules.specs.Unresolved.{Openness, behind, forward}
+use Rattle.theory_back.specs.Descent.{down_node}
 
 -- a field that is entered: its key, and the fields of its literal before it
 pub record Entered : Type 0 where
@@ -44,29 +42,8 @@ abbrev pub open_by : Option Route → Openness
 open_by none = none
 open_by (some r) = some (record { path = path_of r; before = layers_before r })
 
-further-opens : (o : Option Route) (earlier : Fields) (k : Key) → open_by (further o earlier k) ≡ field_openness (open_by o) earlier k
-unfolding field_openness
-further-opens none earlier k = refl
-further-opens (some r) earlier k = refl
-
--- What the list of unresolved values has beside each is told by its route.
-pub route-opens : (root : Root) (b : ℕ) (u : Unresolved) → get_elem? (unresolved_in root) b ≡ some u → u.openness ≡ open_by (route_to root b)
-route-opens root b u e =
-    sym (openness-of root b u e)
-    ∙ sym (seen-node none further none field_openness open_by refl further-opens (some []) 0 (root_node root) b)
-
 -- "A substitution standing directly in the blend of an open object's field with path P looks back if its path is P or longer by further
 -- elements"; "Otherwise it looks forward."
 abbrev pub layers_by : Root → Option Route → List Text → Layers
 layers_by root none p = forward root p
 layers_by root (some r) p = elim (behind (path_of r) p) [ none ↦ forward root p | some rest ↦ walk_path rest (layers_before r) ]
-
--- The layers of a substitution's path, in the unresolved value of a number.
-pub look-back : (root : Root) (b : ℕ) (u : Unresolved) → get_elem? (unresolved_in root) b ≡ some u → (p : List Text)
-    → layers_for root u.openness p ≡ layers_by root (route_to root b) p
-unfolding layers_for
-look-back root b u e p = ap (λ o. layers_for root o p) (route-opens root b u e) ∙ go (route_to root b)
-  where
-    go : (o : Option Route) → layers_for root (open_by o) p ≡ layers_by root o p
-    go none = refl
-    go (some r) = refl
