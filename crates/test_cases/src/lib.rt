@@ -1,11 +1,11 @@
 // What the programs that run vectors share: numbers and parts of a vector on standard input, and numbers and parts on standard output.
-// A number is 4 bytes, high byte first; a part is its length, a number, and then so many bytes.
+// A number is 4 bytes, high byte first; a part is its length, a number, and then so many bytes. A read or a write that fails is handed on.
 #![tactic(auto)]
 
-ghost use Rattle.std.specs.Prelude.{◌≡◌, ◌<◌, length};
-ghost use Rattle.io.specs.Counts.{IsPrefixLen};
+ghost use Rattle.std.specs.Prelude.{◌≡◌, ◌<◌, ◌≤◌, IfOk, length, take};
 
-use libc::{STDIN_FILENO, STDOUT_FILENO};
+use std::io;
+use std::io::Read;
 use text_chars::DocAt;
 
 // Room for a part that is longer than may be lent.
@@ -39,61 +39,89 @@ fn number_of(head: &[u8; 4]) -> usize
     high * 65536 + low
 }
 
+// So many bytes of buf as the length says: none where it is negative, and never more than there are.
+fn count(wanted: isize, buf: &[u8]) -> usize
+    ensures { result ≤ length buf.now }
+{
+    if wanted < 0 {
+        return 0;
+    }
+    let n = wanted as usize;
+    if buf.len() < n { buf.len() } else { n }
+}
+
+// Reads until buf is full or the input ends, and answers how many bytes stand at the start of buf then.
+fn read_full(rt: &HostRuntime, buf: &mut [u8]) -> io::Result<usize>
+    ensures { IfOk result (λ n. n ≤ length buf.new) }
+{
+    let mut done = 0;
+    while done < buf.len() {
+        let n = Read::read(&mut rt.stdin(), &mut buf[done..])?;
+        if n == 0 {
+            return Ok(done);
+        }
+        done += n;
+    }
+    Ok(done)
+}
+
 /// Reads the next number; -1 at the end of the input.
-pub fn read_number() -> isize {
+pub fn read_number(rt: &HostRuntime) -> io::Result<isize> {
     let mut head = [0u8; 4];
-    let got = io::read_full(STDIN_FILENO, &mut head);
+    let got = read_full(rt, &mut head)?;
     if got == 4 {
-        return number_of(&head) as isize;
+        return Ok(number_of(&head) as isize);
     }
     if got > 0 {
-        io::write_all(STDOUT_FILENO, b"a number is cut off\n");
+        rt.print("a number is cut off\n")?;
     }
-    -1
+    Ok(-1)
 }
 
 // Reads so many bytes into buf, and answers whether they were there; writes a line that says what is wrong.
-fn read_bytes(buf: &mut [u8], length: isize) -> bool {
+fn read_bytes(rt: &HostRuntime, buf: &mut [u8], length: isize) -> io::Result<bool> {
     if length < 0 {
-        return false;
+        return Ok(false);
     }
-    let n = io::count(length, buf);
-    if (n as isize) < length {
-        io::write_all(STDOUT_FILENO, b"a part is too long\n");
-        return false;
+    let n = count(length, buf);
+    if n < length as usize {
+        rt.print("a part is too long\n")?;
+        return Ok(false);
     }
-    if io::read_full(STDIN_FILENO, &mut buf[..n]) < n {
-        io::write_all(STDOUT_FILENO, b"a part is cut off\n");
-        return false;
+    if read_full(rt, &mut buf[..n])? < n {
+        rt.print("a part is cut off\n")?;
+        return Ok(false);
     }
-    true
+    Ok(true)
 }
 
 /// Reads the next part, if what stands before it was there. It is handed back whole, so that a program lends nothing to read it.
-pub fn next_part(before: bool) -> Part
-    ensures value { 40000 ≡ length result.bytes }
-    ensures prefix_len { IsPrefixLen result.size result.bytes }
+pub fn next_part(rt: &HostRuntime, before: bool) -> io::Result<Part>
+    ensures value { IfOk result (λ part. 40000 ≡ length part.bytes) }
+    ensures prefix_len { IfOk result (λ part. part.size ≤ length part.bytes) }
+    ensures taken { IfOk result (λ part. part.size ≡ length (take part.size part.bytes)) }
 {
-    let length = if before { read_number() } else { -1 };
+    let length = if before { read_number(rt)? } else { -1 };
     let mut bytes = [0u8; ROOM];
-    let there = read_bytes(&mut bytes, length);
-    let size = io::count(length, &bytes);
-    Part { bytes, size, there }
+    let there = read_bytes(rt, &mut bytes, length)?;
+    let size = count(length, &bytes);
+    Ok(Part { bytes, size, there })
 }
 
 /// Reads a length, and hands back a buffer that has it, as a careless caller left it.
-pub fn next_room() -> Part
-    ensures value { 40000 ≡ length result.bytes }
-    ensures prefix_len { IsPrefixLen result.size result.bytes }
+pub fn next_room(rt: &HostRuntime) -> io::Result<Part>
+    ensures value { IfOk result (λ part. 40000 ≡ length part.bytes) }
+    ensures prefix_len { IfOk result (λ part. part.size ≤ length part.bytes) }
+    ensures taken { IfOk result (λ part. part.size ≡ length (take part.size part.bytes)) }
 {
-    let length = read_number();
+    let length = read_number(rt)?;
     let bytes = [REST; ROOM];
-    let size = io::count(length, &bytes);
-    Part {
+    let size = count(length, &bytes);
+    Ok(Part {
         bytes,
         size,
         there: 0 <= length,
-    }
+    })
 }
 
 /// The bytes of a part that begins at `from`, so many of them as there are.
@@ -108,52 +136,56 @@ pub fn part_of(bytes: &[u8], from: usize, size: usize) -> &[u8] {
 }
 
 /// Writes n in decimal, and a space.
-pub fn print_number(n: usize) {
-    io::print_decimal(STDOUT_FILENO, n as u64);
-    io::write_all(STDOUT_FILENO, b" ");
+pub fn print_number(rt: &HostRuntime, n: usize) -> io::Result<()> {
+    print!(rt; "{n} ")
 }
 
 /// Writes n in decimal, and ends the line.
-pub fn print_last(n: usize) {
-    io::print_decimal(STDOUT_FILENO, n as u64);
-    io::write_all(STDOUT_FILENO, b"\n");
+pub fn print_last(rt: &HostRuntime, n: usize) -> io::Result<()> {
+    println!(rt; "{n}")
 }
 
 /// Writes the line of a number and a place.
-pub fn print_answer(number: u8, place: DocAt) {
-    print_number(wide(number));
-    print_last(place.0);
+pub fn print_answer(rt: &HostRuntime, number: u8, place: DocAt) -> io::Result<()> {
+    print_number(rt, wide(number))?;
+    print_last(rt, place.0)
 }
 
 // Writes a part in hexadecimal, an empty one as '-', and what stands behind it.
-fn print_part(part: &[u8], behind: &[u8]) {
+fn print_part(rt: &HostRuntime, part: &[u8], behind: &str) -> io::Result<()> {
     if part.len() == 0 {
-        io::write_all(STDOUT_FILENO, b"-");
+        rt.print("-")?;
     }
     let mut k = 0;
     while k < part.len() {
-        io::print_hex(STDOUT_FILENO, wide(part[k]) as u64, 2);
+        print!(rt; "{:02x}", part[k])?;
         k += 1;
     }
-    io::write_all(STDOUT_FILENO, behind);
+    rt.print(behind)
 }
 
 /// Writes the part of the bytes that begins at `from`, and a space.
-pub fn print_text(bytes: &[u8], from: usize, size: usize) {
-    print_part(part_of(bytes, from, size), b" ");
+pub fn print_text(rt: &HostRuntime, bytes: &[u8], from: usize, size: usize) -> io::Result<()> {
+    print_part(rt, part_of(bytes, from, size), " ")
 }
 
 /// Writes a sheet: its count and the lengths of its parts, where its table is short the parts, and the word before what check says.
-pub fn print_sheet(count: usize, trail: &[u8], table: &[u8], text: &[u8]) {
-    io::write_all(STDOUT_FILENO, b"0 ");
-    print_number(count);
-    print_number(trail.len());
-    print_number(table.len());
-    print_last(text.len());
+pub fn print_sheet(
+    rt: &HostRuntime,
+    count: usize,
+    trail: &[u8],
+    table: &[u8],
+    text: &[u8],
+) -> io::Result<()> {
+    rt.print("0 ")?;
+    print_number(rt, count)?;
+    print_number(rt, trail.len())?;
+    print_number(rt, table.len())?;
+    print_last(rt, text.len())?;
     if table.len() <= SHOWN {
-        print_part(trail, b" ");
-        print_part(table, b" ");
-        print_part(text, b"\n");
+        print_part(rt, trail, " ")?;
+        print_part(rt, table, " ")?;
+        print_part(rt, text, "\n")?;
     }
-    io::write_all(STDOUT_FILENO, b"check ");
+    rt.print("check ")
 }

@@ -2,7 +2,8 @@
 // two is a length of 4 bytes, high byte first, and then so many bytes. For a refusal it writes a line 'number place' in
 // decimal; else a line '0 items unresolved' and, where the document has at most 64 bytes, a line for the root and each item:
 // 'kind size key text place number', the two texts in hexadecimal, an empty one as '-'. The text of a substitution is that of
-// its path's elements with their ends behind it, 2 bytes each. A part that is cut off or too long ends the program.
+// its path's elements with their ends behind it, 2 bytes each. A part that is cut off or too long ends the program, and so does a read or a write
+// that fails, with an error.
 #![tactic(auto)]
 
 ghost use Rattle.std.specs.Prelude.{◌*◌, ◌<◌};
@@ -13,8 +14,8 @@ use doc_items::{
     COLUMN_KEY, COLUMN_KEYLEN, COLUMN_KIND, COLUMN_NUMBER, COLUMN_PLACE, COLUMN_SIZE, COLUMN_TEXT,
     COLUMN_TEXTLEN,
 };
-use libc::STDOUT_FILENO;
 use read_documents::Reading;
+use std::io;
 
 /// The first kind of a substitution; there is no kind behind the two.
 const SUBSTITUTION: usize = doc_items::PIECE + doc_items::REQUIRED;
@@ -49,79 +50,89 @@ fn text_size(table: &[u16], i: usize) -> usize
 
 // Writes the line of item i; the items before `simple` are pieces of a simple value, whose texts are not looked at: the value has them
 // joined. Answers how far that reaches now.
-fn print_item(table: &[u16], text: &[u8], i: usize, simple: usize) -> usize
+fn print_item(
+    rt: &HostRuntime,
+    table: &[u16],
+    text: &[u8],
+    i: usize,
+    simple: usize,
+) -> io::Result<usize>
     requires { i < capacity }
 {
     let kind = column(table, i, COLUMN_KIND);
     let size = column(table, i, COLUMN_SIZE);
-    test_cases::print_number(kind);
-    test_cases::print_number(size);
+    test_cases::print_number(rt, kind)?;
+    test_cases::print_number(rt, size)?;
     if simple <= i {
         test_cases::print_text(
+            rt,
             text,
             column(table, i, COLUMN_KEY),
             column(table, i, COLUMN_KEYLEN),
-        );
-        test_cases::print_text(text, column(table, i, COLUMN_TEXT), text_size(table, i));
+        )?;
+        test_cases::print_text(rt, text, column(table, i, COLUMN_TEXT), text_size(table, i))?;
     } else {
-        io::write_all(STDOUT_FILENO, b"- - ");
+        rt.print("- - ")?;
     }
-    test_cases::print_number(column(table, i, COLUMN_PLACE));
-    test_cases::print_last(column(table, i, COLUMN_NUMBER));
+    test_cases::print_number(rt, column(table, i, COLUMN_PLACE))?;
+    test_cases::print_last(rt, column(table, i, COLUMN_NUMBER))?;
     if kind < doc_items::ARRAY {
-        i + size
+        Ok(i + size)
     } else {
-        simple
+        Ok(simple)
     }
 }
 
 // Writes the root's line and those of so many items.
-fn print_items(table: &[u16], text: &[u8], items: usize) {
+fn print_items(rt: &HostRuntime, table: &[u16], text: &[u8], items: usize) -> io::Result<()> {
     let mut simple = 0;
     let mut i = 0;
     while i < doc_items::CAPACITY {
         if items < i {
-            return;
+            return Ok(());
         }
-        simple = print_item(table, text, i, simple);
+        simple = print_item(rt, table, text, i, simple)?;
         i += 1;
     }
+    Ok(())
 }
 
-fn run(document: &[u8], environment: &[u8]) {
+fn run(rt: &HostRuntime, document: &[u8], environment: &[u8]) -> io::Result<()> {
     let mut table = [0u16; doc_items::TABLE];
     let mut text = [0u8; doc_items::TEXTS];
     match read_documents::read_inputs(true, document, environment, &mut table, &mut text) {
         Reading::Done { items, unresolved } => {
-            io::write_all(STDOUT_FILENO, b"0 ");
-            test_cases::print_number(items);
-            test_cases::print_last(unresolved);
+            rt.print("0 ")?;
+            test_cases::print_number(rt, items)?;
+            test_cases::print_last(rt, unresolved)?;
             if document.len() <= 64 {
-                print_items(&table, &text, items);
+                print_items(rt, &table, &text, items)?;
             }
+            Ok(())
         }
-        Reading::Refused { number, place } => test_cases::print_answer(number, place),
+        Reading::Refused { number, place } => test_cases::print_answer(rt, number, place),
     }
 }
 
 // Runs the next vector, and answers whether there was one.
-fn run_next() -> bool {
-    let document = test_cases::next_part(true);
-    let environment = test_cases::next_part(document.there);
+fn run_next(rt: &HostRuntime) -> io::Result<bool> {
+    let document = test_cases::next_part(rt, true)?;
+    let environment = test_cases::next_part(rt, document.there)?;
     let a = document.bytes;
     let b = environment.bytes;
     let n = document.size;
     let m = environment.size;
     if environment.there {
-        run(&a[..n], &b[..m]);
+        run(rt, &a[..n], &b[..m])?;
     }
-    environment.there
+    Ok(environment.there)
 }
 
 // A loop that is proved has to end, and nothing says that the input does: hence the count of turns.
-fn main() {
+fn main(rt: HostRuntime) -> io::Result<()> {
     let mut turns = u64::MAX;
-    while turns > 0 && run_next() {
+    while turns > 0 && run_next(&rt)? {
         turns -= 1;
     }
+    Ok(())
 }

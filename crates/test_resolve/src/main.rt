@@ -3,33 +3,43 @@
 // the lengths of the three buffers; check is given a sheet's trail, table and text, each a part. Resolve writes a line 'number place' in
 // decimal for a refusal; else a line '0 count trail table text' with the used lengths; where the table has at most 256 bytes, a line
 // with the three used parts in hexadecimal, an empty one as '-'; and a line 'check number place' with what check says of the sheet. Check
-// writes a line 'number place'. A part that is cut off or too long ends the program.
+// writes a line 'number place'. A part that is cut off or too long ends the program, and so does a read or
+// a write that fails, with an error.
 #![tactic(auto)]
 
 use job_results::{Resolution, Verdict};
+use std::io;
 use text_chars::DocAt;
 
 // The job of a vector that is no resolution.
 const CHECK: isize = 2;
 
-fn run_check(document: &[u8], environment: &[u8], trail: &[u8], table: &[u8], text: &[u8]) {
+fn run_check(
+    rt: &HostRuntime,
+    document: &[u8],
+    environment: &[u8],
+    trail: &[u8],
+    table: &[u8],
+    text: &[u8],
+) -> io::Result<()> {
     match job_check::check(document, environment, trail, table, text) {
-        Verdict::Accepted => test_cases::print_answer(0, DocAt(0)),
-        Verdict::Refused { number, place } => test_cases::print_answer(number, place),
+        Verdict::Accepted => test_cases::print_answer(rt, 0, DocAt(0)),
+        Verdict::Refused { number, place } => test_cases::print_answer(rt, number, place),
     }
 }
 
 // Resolves, and writes the refusal, or the used parts of the three buffers and what check says of them.
 fn run_resolve(
+    rt: &HostRuntime,
     document: &[u8],
     environment: &[u8],
     budget: u64,
     trail: &mut [u8],
     table: &mut [u8],
     text: &mut [u8],
-) {
+) -> io::Result<()> {
     match job_resolve::resolve(document, environment, budget, trail, table, text) {
-        Resolution::Refused { number, place } => test_cases::print_answer(number, place),
+        Resolution::Refused { number, place } => test_cases::print_answer(rt, number, place),
         Resolution::Done {
             count,
             trail: a,
@@ -39,19 +49,19 @@ fn run_resolve(
             let sent = test_cases::part_of(trail, 0, a.0);
             let sheet = test_cases::part_of(table, 0, b.0);
             let texts = test_cases::part_of(text, 0, c.0);
-            test_cases::print_sheet(count, sent, sheet, texts);
-            run_check(document, environment, sent, sheet, texts);
+            test_cases::print_sheet(rt, count, sent, sheet, texts)?;
+            run_check(rt, document, environment, sent, sheet, texts)
         }
     }
 }
 
 // Reads the budget and the lengths of the buffers, and resolves; answers whether they were there.
-fn next_resolve(document: &[u8], environment: &[u8]) -> bool {
+fn next_resolve(rt: &HostRuntime, document: &[u8], environment: &[u8]) -> io::Result<bool> {
     // a budget over the room is far over the limit
-    let budget = test_cases::next_room();
-    let trail = test_cases::next_room();
-    let table = test_cases::next_room();
-    let text = test_cases::next_room();
+    let budget = test_cases::next_room(rt)?;
+    let trail = test_cases::next_room(rt)?;
+    let table = test_cases::next_room(rt)?;
+    let text = test_cases::next_room(rt)?;
     let mut a = trail.bytes;
     let mut b = table.bytes;
     let mut c = text.bytes;
@@ -61,22 +71,23 @@ fn next_resolve(document: &[u8], environment: &[u8]) -> bool {
     let most = budget.size;
     if text.there {
         run_resolve(
+            rt,
             document,
             environment,
             most as u64,
             &mut a[..n],
             &mut b[..m],
             &mut c[..k],
-        );
+        )?;
     }
-    text.there
+    Ok(text.there)
 }
 
 // Reads a sheet, and checks it; answers whether it was there.
-fn next_check(document: &[u8], environment: &[u8]) -> bool {
-    let trail = test_cases::next_part(true);
-    let table = test_cases::next_part(trail.there);
-    let text = test_cases::next_part(table.there);
+fn next_check(rt: &HostRuntime, document: &[u8], environment: &[u8]) -> io::Result<bool> {
+    let trail = test_cases::next_part(rt, true)?;
+    let table = test_cases::next_part(rt, trail.there)?;
+    let text = test_cases::next_part(rt, table.there)?;
     let a = trail.bytes;
     let b = table.bytes;
     let c = text.bytes;
@@ -84,33 +95,34 @@ fn next_check(document: &[u8], environment: &[u8]) -> bool {
     let m = table.size;
     let k = text.size;
     if text.there {
-        run_check(document, environment, &a[..n], &b[..m], &c[..k]);
+        run_check(rt, document, environment, &a[..n], &b[..m], &c[..k])?;
     }
-    text.there
+    Ok(text.there)
 }
 
 // Runs the next vector, and answers whether there was one.
-fn run_next() -> bool {
-    let job = test_cases::read_number();
-    let document = test_cases::next_part(0 <= job);
-    let environment = test_cases::next_part(document.there);
+fn run_next(rt: &HostRuntime) -> io::Result<bool> {
+    let job = test_cases::read_number(rt)?;
+    let document = test_cases::next_part(rt, 0 <= job)?;
+    let environment = test_cases::next_part(rt, document.there)?;
     let a = document.bytes;
     let b = environment.bytes;
     let n = document.size;
     let m = environment.size;
     if environment.there {
         if job == CHECK {
-            return next_check(&a[..n], &b[..m]);
+            return next_check(rt, &a[..n], &b[..m]);
         }
-        return next_resolve(&a[..n], &b[..m]);
+        return next_resolve(rt, &a[..n], &b[..m]);
     }
-    false
+    Ok(false)
 }
 
 // A loop that is proved has to end, and nothing says that the input does: hence the count of turns.
-fn main() {
+fn main(rt: HostRuntime) -> io::Result<()> {
     let mut turns = u64::MAX;
-    while turns > 0 && run_next() {
+    while turns > 0 && run_next(&rt)? {
         turns -= 1;
     }
+    Ok(())
 }

@@ -6,7 +6,7 @@ use mathlib.Core.List.{List, [], ◌∷◌, reverse}
 use Rattle.std.proofs.Math.Option.{Option}
 use native.Mathlib.Omega.{arith}
 use Rattle.std.proofs.Math.ListN.{length, length-reverse}
-use Rattle.answers.specs.Ask.{value, missing}
+use Rattle.answers.specs.Ask.{value, refused, missing}
 use Rattle.rules.specs.Values.{Answer}
 use Rattle.rules.specs.Layers.{Layer, written, settled, Counted, nothing, one, merged}
 use Rattle.rules.specs.Settled.{Ending, Settled, Given, push_layer, push_all, deeper_in, deeper_of, gather_in, gather_of}
@@ -90,6 +90,20 @@ module _ (M : Memory) (known : ℕ → Option Answer) (tables : Tables M known) 
     merges (Taken.One c) (value (one l)) e (one-shows s) = one-shows s
     merges (Taken.Needs a) (missing b) e (needs-shows q) = needs-shows q
     merges (Taken.Merged hi) (value (merged os)) e (merged-shows q) = merged-shows (merging hi os e q)
+    merges Taken.Nothing (value (one l)) e x = elim x [ ]
+    merges Taken.Nothing (value (merged os)) e x = elim x [ ]
+    merges Taken.Nothing (refused r) e x = elim x [ ]
+    merges Taken.Nothing (missing b) e x = elim x [ ]
+    merges (Taken.One c) (value nothing) e x = elim x [ ]
+    merges (Taken.One c) (value (merged os)) e x = elim x [ ]
+    merges (Taken.One c) (refused r) e x = elim x [ ]
+    merges (Taken.One c) (missing b) e x = elim x [ ]
+    merges (Taken.Needs a) (value v) e x = elim x [ ]
+    merges (Taken.Needs a) (refused r) e x = elim x [ ]
+    merges (Taken.Merged hi) (value nothing) e x = elim x [ ]
+    merges (Taken.Merged hi) (value (one l)) e x = elim x [ ]
+    merges (Taken.Merged hi) (refused r) e x = elim x [ ]
+    merges (Taken.Merged hi) (missing b) e x = elim x [ ]
 
   -- What `gather` gives: room for twice what the layers weigh is enough.
   pub gather-merges : (ls : List Layer) (st : Ending) {hi : ℕ} {w : List ℕ} {r : Taken} → hi + 2 * weigh known ls ≤ entries

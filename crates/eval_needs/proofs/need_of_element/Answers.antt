@@ -6,7 +6,7 @@ pub element_at-requires : goal.element_at-requires
 element_at-requires c = search element-laws
 
 pub need_of_layer-need-requires : goal.need_of_layer-need-requires
-need_of_layer-need-requires c = search (element-asks c.before.before.before.before.before.before.before.before.before.before.before.before.requires, rules)
+need_of_layer-need-requires c = search (element-asks c.requires, rules)
 
 pub returns-in-End : goal.returns-in-End
 returns-in-End c = search element-laws

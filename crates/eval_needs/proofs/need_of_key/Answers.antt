@@ -6,10 +6,10 @@ pub take_from-requires : goal.take_from-requires
 take_from-requires c = search key_laws
 
 pub need_of_layer-need-requires : goal.need_of_layer-need-requires
-need_of_layer-need-requires c = search (key-layer c.before.before.before.before.before.before.before.before.before.before.before.requires c.take_from.ensures, rules)
+need_of_layer-need-requires c = search (key-layer c.requires c.take_from.ensures, rules)
 
 pub need_of_objects-need-requires : goal.need_of_objects-need-requires
-need_of_objects-need-requires c = search (key-objects c.before.before.before.before.before.before.before.before.before.before.before.requires c.take_from.ensures, rules)
+need_of_objects-need-requires c = search (key-objects c.requires c.take_from.ensures, rules)
 
 pub returns-in-Nothing : goal.returns-in-Nothing
 returns-in-Nothing c = search key_laws

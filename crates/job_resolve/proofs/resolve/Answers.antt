@@ -27,13 +27,13 @@ pub returns-in-Refused : goal.returns-in-Refused
 returns-in-Refused c = search resolve-refused
 
 pub shape_of-trail-in-Done : goal.shape_of-trail-in-Done
-shape_of-trail-in-Done c = search (part-kept, c.finish-in-Done.auto.0, c.resolution-r.auto.1.1.1.1.0)
+shape_of-trail-in-Done c = search (part-kept, c.finish-in-Done.auto.trail, c.resolution-r.auto.trail)
 
 pub shape_of-table-in-Done : goal.shape_of-table-in-Done
-shape_of-table-in-Done c = search (part-kept, c.finish-in-Done.auto.1.0, c.resolution-r.auto.1.1.1.1.1.0)
+shape_of-table-in-Done c = search (part-kept, c.finish-in-Done.auto.table, c.resolution-r.auto.table)
 
 pub shape_of-text-in-Done : goal.shape_of-text-in-Done
-shape_of-text-in-Done c = search (part-kept, c.finish-in-Done.auto.1.1.0, c.resolution-r.auto.1.1.1.1.1.1.0)
+shape_of-text-in-Done c = search (part-kept, c.finish-in-Done.auto.text, c.resolution-r.auto.text)
 
 pub returns-in-Done : goal.returns-in-Done
-returns-in-Done c = resolve-done _ _ _ _ _ _ c.budget_fits-fits.ensures c.read_task.ensures c.in-Done.is (search rules) c.room_of-s.ensures c.room_of-x.ensures c.room_of-t.ensures c.resolution-r.ensures c.resolution-r.auto.1.1.1.1.0 c.resolution-r.auto.1.1.1.1.1.0 c.resolution-r.auto.1.1.1.1.1.1.0 c.finish-in-Done.ensures
+returns-in-Done c = resolve-done _ _ _ _ _ _ c.budget_fits-fits.ensures c.read_task.ensures c.in-Done.is (search rules) c.room_of-s.ensures c.room_of-x.ensures c.room_of-t.ensures c.resolution-r.ensures c.resolution-r.auto.trail c.resolution-r.auto.table c.resolution-r.auto.text c.finish-in-Done.ensures

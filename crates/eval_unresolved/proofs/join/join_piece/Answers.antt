@@ -20,19 +20,19 @@ pub join_objects-requires : goal.join_objects-requires
 join_objects-requires c = search lending
 
 pub returns-in-Text : goal.returns-in-Text
-returns-in-Text c = search (piece-text c.before.before.before.before.before.before.before.before.before.before.before.before.before.before.before.before.args.env.now)
+returns-in-Text c = search (piece-text c.args.env.now)
 
 pub returns-in-Undefined : goal.returns-in-Undefined
-returns-in-Undefined c = search (piece-undefined c.before.before.before.before.before.before.before.before.before.before.before.before.before.args.env.now)
+returns-in-Undefined c = search (piece-undefined c.args.env.now)
 
 pub returns-in-One : goal.returns-in-One
-returns-in-One c = search (piece-one c.before.before.before.before.before.before.before.before.before.before.before.before.before.before.before.before.args.env.now)
+returns-in-One c = search (piece-one c.args.env.now)
 
 pub returns-in-Merged : goal.returns-in-Merged
-returns-in-Merged c = search (piece-merged c.before.before.before.before.before.before.before.before.before.before.before.before.before.before.before.before.before.before.args.env.now)
+returns-in-Merged c = search (piece-merged c.args.env.now)
 
 pub returns-in-Needs : goal.returns-in-Needs
-returns-in-Needs c = search (piece-needs c.before.before.before.before.before.before.before.before.args.env.now)
+returns-in-Needs c = search (piece-needs c.args.env.now)
 
 pub returns-in-Missing : goal.returns-in-Missing
-returns-in-Missing c = search (piece-missing c.before.before.before.before.before.before.before.before.args.env.now)
+returns-in-Missing c = search (piece-missing c.args.env.now)

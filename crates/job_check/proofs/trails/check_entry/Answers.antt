@@ -11,10 +11,10 @@ pub unresolved_value-outcome-requires : goal.unresolved_value-outcome-requires
 unresolved_value-outcome-requires c = search entries
 
 pub check_outcome-requires : goal.check_outcome-requires
-check_outcome-requires c = entry_case c.before.before.before.before.before.before.before.before.before.before.before.before.before.before.before.before.before.before.before.before.before.before.before.before.before.before.before.before.before.requires c.next_number.ensures c.in-Number.is c.item_of-item.ensures c.unresolved_value-outcome.ensures
+check_outcome-requires c = entry_case c.requires c.next_number.ensures c.in-Number.is c.item_of-item.ensures c.unresolved_value-outcome.ensures
 
 pub returns-in-Wrong : goal.returns-in-Wrong
 returns-in-Wrong c = search entries
 
 pub returns-in-Number : goal.returns-in-Number
-returns-in-Number c = entry-number c.before.before.before.before.before.before.before.before.before.before.before.before.before.before.before.before.before.before.before.before.before.before.before.before.before.before.before.before.before.before.before.before.before.before.requires c.next_number.ensures c.in-Number.is c.item_of-item.ensures c.unresolved_value-outcome.ensures c.check_outcome.ensures
+returns-in-Number c = entry-number c.requires c.next_number.ensures c.in-Number.is c.item_of-item.ensures c.unresolved_value-outcome.ensures c.check_outcome.ensures
