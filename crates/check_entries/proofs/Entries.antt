@@ -19,7 +19,7 @@ use Rattle.theory_check.specs.Begins.{EntryAt}
 use Rattle.theory_check.specs.Steps.{next_number, check-more, check-differs, check-over, check-text-over}
 use Rattle.text_chars.specs.Parts.{part, part-is, part_length}
 use Rattle.sheet_kept.specs.Kept.{Held, named}
-use Rattle.sheet_kept.specs.Sizes.{kept-records}
+use Rattle.sheet_kept.proofs.Sizes.{kept-records}
 use Rattle.eval_writer.specs.Clauses.{InRoom}
 use Rattle.eval_writer.specs.declared.Out.{Out}
 use Rattle.eval_store.specs.Values.Contracts.{Full}

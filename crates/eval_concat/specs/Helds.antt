@@ -7,8 +7,10 @@ use Rattle.rules.specs.Bytes.{Text}
 use Rattle.rules.specs.Values.{Values, no-values, val, join_values, nesting_of, deepest_value, record_size, text_size}
 use Rattle.rules.specs.Sheet.{two}
 use Rattle.sheet_kept.specs.Kept.{listed, Helds, no-helds, also, named, named_all, count_helds, kept, kept_all}
-use Rattle.sheet_kept.specs.InTurn.{Rec, kept_rec, in_turn, texts_of, flat, flat_all, words_rec, words_of, extent, in_turn-append, kept-flat-all}
-use Rattle.sheet_kept.specs.Sizes.{words_append, words-extent, kept-records, value-extent}
+use Rattle.sheet_kept.specs.InTurn.{Rec, kept_rec, in_turn, texts_of, flat, flat_all, words_rec, words_of, extent, in_turn-append}
+use Rattle.sheet_kept.proofs.InTurn.{kept-flat-all}
+use Rattle.sheet_kept.specs.Sizes.{words_append, words-extent}
+use Rattle.sheet_kept.proofs.Sizes.{kept-records, value-extent}
 use Rattle.eval_writer.specs.Clauses.{Wrote}
 use Rattle.eval_writer.specs.Composition.{wrote_then}
 use Rattle.eval_writer.specs.Building.{WrittenAll}

@@ -18,7 +18,8 @@ use Rattle.rules.specs.Documents.{Setting}
 use Rattle.theory.specs.SettledAnswers.{join_piece_in}
 use Rattle.doc_items.specs.Room.{number_bound}
 use Rattle.sheet_kept.specs.Kept.{listed, Helds, no-helds, also, named, named_all, count_helds, kept}
-use Rattle.sheet_kept.specs.Sizes.{all-count, kept-records}
+use Rattle.sheet_kept.specs.Sizes.{all-count}
+use Rattle.sheet_kept.proofs.Sizes.{kept-records}
 use Rattle.eval_writer.specs.Clauses.{Room}
 use Rattle.eval_writer.specs.declared.Out.{Out}
 use Rattle.eval_results.specs.Extents.Contracts.{far}

@@ -15,7 +15,8 @@ use Rattle.theory.specs.Layout.{two_back, length-texts}
 use Rattle.sheet_kept.specs.Kept.{Held, simple, listed, keyed, Helds, no-helds, also, HeldFields, no_fields, field, named, named_all, named_fields}
 use Rattle.sheet_kept.specs.Kept.{count_helds, count_fields, key_record, kept, kept_all, kept_fields}
 use Rattle.sheet_kept.specs.InTurn.{flat_scalar, flat, flat_all, flat_fields, Word, words_rec, words_of, extent}
-use Rattle.sheet_kept.specs.Sizes.{kept-length, kept-some, all-records, fields-records, words_append, value-extent}
+use Rattle.sheet_kept.specs.Sizes.{kept-some, words_append}
+use Rattle.sheet_kept.proofs.Sizes.{kept-length, all-records, fields-records, value-extent}
 use Rattle.sheet_kept.specs.Standing.{Stands, stands-left, stands-right, stands-in}
 use Rattle.sheet_forms.specs.Model.{shape_of, pair_c, members_c}
 use Rattle.sheet_forms.specs.Ends.{at-0, at_n, array-members, object-members}

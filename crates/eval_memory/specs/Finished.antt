@@ -21,7 +21,8 @@ use Rattle.eval_keys.specs.Numbers.{Numbered}
 use Rattle.eval_writer.specs.Keys.{KeyIn, KeysIn}
 use Rattle.sheet_kept.specs.Kept.{Held, simple, listed, keyed, HeldFields, field, named, named_all, named_fields}
 use Rattle.sheet_kept.specs.Kept.{key_record, kept, kept_all, kept_fields}
-use Rattle.sheet_kept.specs.Sizes.{kept-records, kept-some}
+use Rattle.sheet_kept.specs.Sizes.{kept-some}
+use Rattle.sheet_kept.proofs.Sizes.{kept-records}
 use Rattle.sheet_kept.specs.Standing.{Stands, stands-left, stands-right, stands-in}
 use Rattle.sheet_forms.specs.Model.{end_c}
 use Rattle.eval_memory.specs.Keys.{KeyNumber, EachKey, EachField, keys_in}

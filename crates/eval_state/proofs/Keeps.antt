@@ -17,7 +17,7 @@ use Rattle.rules.specs.Documents.{Setting}
 use Rattle.theory.specs.Layout.{length-texts}
 use Rattle.doc_items.specs.Room.{text_room, answers_at, sheet_at, trail_at}
 use Rattle.sheet_kept.specs.Kept.{Held, named, kept}
-use Rattle.sheet_kept.specs.Sizes.{kept-records}
+use Rattle.sheet_kept.proofs.Sizes.{kept-records}
 use Rattle.eval_writer.specs.Clauses.{InRoom}
 use Rattle.eval_writer.specs.declared.Out.{Out}
 use Rattle.eval_store.specs.Values.Contracts.{KeepAsked, KeepIs}

@@ -7,7 +7,7 @@ use Rattle.rules.specs.Values.{record_size, text_size}
 use Rattle.rules.specs.Sheet.{texts}
 use Rattle.theory.specs.Layout.{length-texts}
 use Rattle.sheet_kept.specs.Kept.{Held, named}
-use Rattle.sheet_kept.specs.Sizes.{kept-records}
+use Rattle.sheet_kept.proofs.Sizes.{kept-records}
 use Rattle.eval_writer.specs.Clauses.{InRoom}
 use Rattle.eval_writer.specs.declared.Out.{Out}
 use Rattle.eval_store.specs.Values.Contracts.{Full}

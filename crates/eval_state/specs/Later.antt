@@ -12,7 +12,7 @@ use Rattle.rules.specs.Documents.{Setting}
 use Rattle.theory.specs.Layout.{length-texts, length-trail_texts}
 use Rattle.theory.specs.TrailAnswers.{answer-in}
 use Rattle.sheet_kept.specs.Kept.{named, kept}
-use Rattle.sheet_kept.specs.Sizes.{kept-records}
+use Rattle.sheet_kept.proofs.Sizes.{kept-records}
 use Rattle.doc_items.specs.Room.{answers_at, sheet_at, trail_at, bytes_room}
 use Rattle.eval_memory.specs.Keys.{KeyNumber}
 use Rattle.eval_memory.specs.Finished.{SettledAt}

@@ -9,7 +9,7 @@ use Rattle.rules.specs.NamedValues.{Distinct}
 use Rattle.rules.specs.Sheet.{texts}
 use Rattle.theory.specs.Layout.{length-texts}
 use Rattle.sheet_kept.specs.Kept.{Held, simple, listed, keyed, Helds, no-helds, also, HeldFields, no_fields, field, named, kept}
-use Rattle.sheet_kept.specs.Sizes.{kept-records}
+use Rattle.sheet_kept.proofs.Sizes.{kept-records}
 use Rattle.sheet_kept.specs.Standing.{Stands, Clear, stands-still}
 use Rattle.eval_memory.specs.Keys.{KeyNumber, EachKey, EachKeyOf, EachField}
 use Rattle.eval_memory.specs.Finished.{Memory, SettledAt}

@@ -9,8 +9,9 @@ use Rattle.rules.specs.Sheet.{two, text_record, scalar_record}
 use Rattle.sheet_kept.specs.Kept.{Held, simple, listed, keyed, Helds, no-helds, HeldFields, no_fields, named, named_all, named_fields, key_record}
 use Rattle.sheet_kept.specs.Kept.{kept, kept_all, kept_fields}
 use Rattle.sheet_kept.specs.InTurn.{flat_scalar, flat, flat_all, flat_fields, Word, words_rec, words_of, extent}
-use Rattle.sheet_kept.specs.Sizes.{kept-records, value-extent}
-use Rattle.sheet_kept.specs.Building.{with_held, with_field, kept-held, kept_field, words-held, words-field}
+use Rattle.sheet_kept.proofs.Sizes.{kept-records, value-extent}
+use Rattle.sheet_kept.specs.Building.{with_held, with_field, words-held, words-field}
+use Rattle.sheet_kept.proofs.Building.{kept-held, kept_field}
 use Rattle.eval_writer.specs.Model.{word_at, key_at}
 use Rattle.eval_writer.specs.Clauses.{Puts, Wrote, KeyWrote, Written}
 use Rattle.eval_writer.specs.Keys.{KeyIn}

@@ -7,8 +7,9 @@ use Rattle.rules.specs.Bytes.{Text}
 use Rattle.rules.specs.Sizes.{max_records, max_text}
 use Rattle.rules.specs.Values.{text_size}
 use Rattle.sheet_kept.specs.Kept.{Held, named, kept}
-use Rattle.sheet_kept.specs.InTurn.{Rec, plain, head, word, name, text_of, texts_of, flat, Word, words_rec, words_of, extent, flat-texts, flat-size}
-use Rattle.sheet_kept.specs.Sizes.{value-extent}
+use Rattle.sheet_kept.specs.InTurn.{Rec, plain, head, word, name, text_of, texts_of, flat, Word, words_rec, words_of, extent}
+use Rattle.sheet_kept.proofs.InTurn.{flat-texts, flat-size}
+use Rattle.sheet_kept.proofs.Sizes.{value-extent}
 use Rattle.sheet_kept.specs.Sets.{sets-append, sets-sets, take-front}
 use Rattle.eval_writer.specs.Model.{whole, puts}
 use Rattle.eval_writer.specs.Clauses.{Room, records_in, texts_in, Puts, Wrote, Written, InRoom}

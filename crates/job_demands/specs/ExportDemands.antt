@@ -35,7 +35,8 @@ use Rattle.theory.specs.Promises as promises
 use Rattle.theory.specs.Promises.{OneOf, Refuses, PositionFor, FoundIn}
 use Rattle.job_results.specs.Answers.{resolved_told, packed_verdict}
 use Rattle.job_results.specs.Unpacking as bits
-use Rattle.job_results.specs.Bits.{resolve-unpacks, check-unpacks}
+use Rattle.job_results.specs.Bits.{check-unpacks}
+use Rattle.job_results.proofs.Bits.{resolve-unpacks}
 use Rattle.job_results.specs.Clauses.{PackedResolveIs}
 use Rattle.sheet_paths.specs.Answers.{packed}
 use Rattle.sheet_paths.specs.Unpacking as look

@@ -24,7 +24,7 @@ use Rattle.theory.specs.JobRefusals.{lent_bounds, Judgement, read, not-accepted,
 use Rattle.theory.specs.Promises.{resolved-whole}
 use Rattle.job_results.specs.Answers.{resolved_told}
 use Rattle.job_results.specs.Unpacking.{PlaceFits, Roomy, done, refusal}
-use Rattle.job_results.specs.Unpacking.{Unpacks, unpacks, RoomyVerdict, UnpacksVerdict, unpacks-verdict}
+use Rattle.job_results.specs.Unpacking.{RoomyVerdict, UnpacksVerdict, unpacks-verdict}
 
 -- ---- numbers
 
@@ -129,9 +129,7 @@ module _ (d e : List ℕ) (budget l m n : ℕ) where
       go (unread x k q) t = unread-short (leb budget max_budget) d e x k (rw q at t)
       go (stopped x k y w p q) t = valid-short (leb budget max_budget) d e x k
       go (succeeded z p) t = let q : has_place 0 ≡ true = rw z at t in clash (cc)
-
-  pub resolve-unpacks : Unpacks (resolved_told answer)
-  resolve-unpacks = unpacks (resolved_told answer) resolve-roomy
+      -- so its parts are those in the bits: `resolve-unpacks` of proofs/Bits.antt
 
 -- ---- check
 

@@ -16,7 +16,8 @@ use Rattle.rules.specs.Sheet.{two, text_record, scalar_record}
 use Rattle.theory.specs.Layout.{two_back}
 use Rattle.sheet_kept.specs.Kept.{Held, simple, listed, keyed, Helds, no-helds, also, HeldFields, no_fields, field, named, named_all, named_fields}
 use Rattle.sheet_kept.specs.Kept.{count_helds, count_fields, key_record, kept, kept_all, kept_fields}
-use Rattle.sheet_kept.specs.Sizes.{kept-some, all-records, fields-records}
+use Rattle.sheet_kept.specs.Sizes.{kept-some}
+use Rattle.sheet_kept.proofs.Sizes.{all-records, fields-records}
 use Rattle.sheet_forms.specs.Model.{shape_of, pair_c, end_by, end_c, member_of, count_n, count_c, members_c}
 use Rattle.sheet_forms.specs.declared.Shape.{Shape}
 

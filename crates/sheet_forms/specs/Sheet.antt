@@ -13,8 +13,9 @@ use Rattle.theory.specs.Layout.{two_back}
 use Rattle.sheet_kept.specs.Kept.{Held, simple, listed, keyed, Helds, no-helds, also, HeldFields, no_fields, field, named, named_all, named_fields}
 use Rattle.sheet_kept.specs.Kept.{count_helds, count_fields, key_record}
 use Rattle.sheet_kept.specs.InTurn.{Rec, plain, head, word, name, text_of, kept_rec, laid_rec, in_turn, texts_of, flat_scalar, flat, flat_all, flat_fields}
-use Rattle.sheet_kept.specs.InTurn.{in_turn-append, kept-flat-all, kept-flat-fields}
-use Rattle.sheet_kept.specs.Sizes.{all-records, fields-records}
+use Rattle.sheet_kept.specs.InTurn.{in_turn-append}
+use Rattle.sheet_kept.proofs.InTurn.{kept-flat-all, kept-flat-fields}
+use Rattle.sheet_kept.proofs.Sizes.{all-records, fields-records}
 use Rattle.sheet_forms.specs.Model.{shape_of, count_c, members_c, text_c, head_c, counted_c, key_c, record_by, record_c, code_of, size_of, text_len_of}
 use Rattle.sheet_forms.specs.Ends.{at-0, at_n, drop-behind, head-end, count-all, count-fields}
 use Rattle.sheet_forms.specs.declared.Form.{Form}

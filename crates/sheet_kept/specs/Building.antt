@@ -1,5 +1,6 @@
 -- Members that come one by one, each behind those before it: how records, texts and depth grow.
-use Rattle.std.specs.Prelude.{◌≡◌, refl, ℕ, suc, ◌+◌, max}
+-- That the records do is shown in proofs/Building.antt.
+use Rattle.std.specs.Prelude.{◌≡◌, refl, ℕ, suc, max}
 use Rattle.std.proofs.Math.Path.{sym, ap}
 use Rattle.std.proofs.Common.{◌∙◌}
 use mathlib.Core.List.{List, ◌∷◌, ◌++◌, append_assoc, append-nil}
@@ -8,10 +9,9 @@ use Rattle.std.proofs.Math.ListN.{length}
 use Rattle.rules.specs.Bytes.{Text}
 use Rattle.rules.specs.Values.{nesting_of, deepest_value, deepest_member}
 use Rattle.sheet_kept.specs.Kept.{Held, Helds, no-helds, also, HeldFields, no_fields, field, named, named_all, named_fields}
-use Rattle.sheet_kept.specs.Kept.{count_helds, count_fields, key_record, kept, kept_all, kept_fields}
-use Rattle.sheet_kept.specs.InTurn.{Rec, name, text_of, kept_rec, in_turn, texts_of, flat, flat_all, flat_fields, words_of, extent}
-use Rattle.sheet_kept.specs.InTurn.{in_turn-append, kept-flat, kept-flat-all, kept-flat-fields}
-use Rattle.sheet_kept.specs.Sizes.{words_append, words-extent}
+use Rattle.sheet_kept.specs.Kept.{count_helds, count_fields}
+use Rattle.sheet_kept.specs.InTurn.{Rec, name, flat, flat_all, flat_fields, words_of}
+use Rattle.sheet_kept.specs.Sizes.{words_append}
 
 -- one member more
 unfoldable pub with_held : Helds → Held → Helds
@@ -23,37 +23,18 @@ with_field no_fields k w = field k w no_fields
 with_field (field j v ms) k w = field j v (with_field ms k w)
 
 module _ (key : ℕ → Text) where
-  flat-held : (vs : Helds) (w : Held) → flat_all key (with_held vs w) ≡ flat_all key vs ++ flat key w
+  pub flat-held : (vs : Helds) (w : Held) → flat_all key (with_held vs w) ≡ flat_all key vs ++ flat key w
   unfolding flat with_held
   flat-held no-helds w = append-nil (flat key w)
   flat-held (also v vs) w =
       ap (λ (q : List Rec). flat key v ++ q) (flat-held vs w) ∙ sym (append_assoc (flat key v) (flat_all key vs) (flat key w))
 
-  flat-field : (ms : HeldFields) (k : ℕ) (w : Held) → flat_fields key (with_field ms k w) ≡ flat_fields key ms ++ (name k (key k) ∷ flat key w)
+  pub flat-field : (ms : HeldFields) (k : ℕ) (w : Held) → flat_fields key (with_field ms k w) ≡ flat_fields key ms ++ (name k (key k) ∷ flat key w)
   unfolding flat with_field
   flat-field no_fields k w = ap (λ (q : List Rec). name k (key k) ∷ q) (append-nil (flat key w))
   flat-field (field j v ms) k w =
       ap (λ (q : List Rec). name j (key j) ∷ flat key v ++ q) (flat-field ms k w)
       ∙ ap (λ (q : List Rec). name j (key j) ∷ q) (sym (append_assoc (flat key v) (flat_fields key ms) (name k (key k) ∷ flat key w)))
-
-  -- ---- records: those so far, then the new member's, its texts behind theirs
-
-  pub kept-held : (t : ℕ) (vs : Helds) (w : Held)
-      → kept_all key t (with_held vs w) ≡ kept_all key t vs ++ kept key (t + extent (words_of (flat_all key vs))) w
-  kept-held t vs w =
-      let rs = flat_all key vs in
-      kept-flat-all key t (with_held vs w) ∙ ap (in_turn kept_rec t) (flat-held vs w) ∙ in_turn-append kept_rec t rs (flat key w)
-      ∙ rw (kept-flat-all key t vs, words-extent rs, kept-flat key (t + length (texts_of rs)) w)
-
-  pub kept_field : (t : ℕ) (ms : HeldFields) (k : ℕ) (w : Held)
-      → kept_fields key t (with_field ms k w)
-      ≡ kept_fields key t ms ++ (key_record k (key k) ++ kept key (t + extent (words_of (flat_fields key ms)) + length (key k)) w)
-  unfolding in_turn kept_rec text_of
-  kept_field t ms k w =
-      let rs = flat_fields key ms in
-      kept-flat-fields key t (with_field ms k w) ∙ ap (in_turn kept_rec t) (flat-field ms k w)
-      ∙ in_turn-append kept_rec t rs (name k (key k) ∷ flat key w)
-      ∙ rw (kept-flat-fields key t ms, words-extent rs, kept-flat key (t + length (texts_of rs) + length (key k)) w)
 
   -- ---- texts
 

@@ -1,15 +1,13 @@
--- How long records and texts are: as long kept as public, wherever the texts begin.
+-- How long records and texts are, record by record. How long they are of a value is shown in proofs/Sizes.antt.
 use Rattle.std.specs.Prelude.{◌≡◌, refl, ℕ, ◌+◌, ◌≤◌, List, [], ◌∷◌, ◌++◌, true, false, length}
 use Rattle.std.proofs.Common.{sym, ap, ◌∙◌, append_assoc, arith, length-append}
 use Rattle.rules.specs.Bytes.{Text}
 use Rattle.rules.specs.Tree.{Scalar, null, boolean, number, string}
-use Rattle.rules.specs.Values.{text_size, record_size, value_record_sizes, member_record_sizes}
+use Rattle.rules.specs.Values.{text_size}
 use Rattle.rules.specs.Sheet.{two, text_record, scalar_record}
-use Rattle.theory.specs.Layout.{length-records}
-use Rattle.sheet_kept.specs.Kept.{Held, simple, listed, keyed, Helds, no-helds, also, HeldFields, no_fields, field, named, named_all, named_fields}
-use Rattle.sheet_kept.specs.Kept.{count_helds, count_fields, key_record, kept, kept_all, kept_fields, layout}
-use Rattle.sheet_kept.specs.InTurn.{Rec, plain, head, word, name, text_of, kept_rec, laid_rec, in_turn, texts_of, flat, Word, words_rec, words_of, extent}
-use Rattle.sheet_kept.specs.InTurn.{flat-size, kept-flat, layout-flat}
+use Rattle.sheet_kept.specs.Kept.{Held, simple, listed, keyed, Helds, no-helds, also, HeldFields, no_fields, field, named}
+use Rattle.sheet_kept.specs.Kept.{count_helds, count_fields, key_record, kept, kept_all, kept_fields}
+use Rattle.sheet_kept.specs.InTurn.{Rec, plain, head, word, name, text_of, kept_rec, laid_rec, in_turn, texts_of, Word, words_rec, words_of, extent}
 
 pub same_size : (t u : ℕ) (rs : List Rec) → length (in_turn kept_rec t rs) ≡ length (in_turn laid_rec u rs)
 unfolding in_turn kept_rec laid_rec
@@ -25,26 +23,6 @@ same_size t u (r ∷ rs) =
     one (head b n m) = refl
     one (word b x) = refl
     one (name k x) = refl
-
--- as many bytes as kept as in the sheet, wherever the texts stand
-pub kept-size : (key : ℕ → Text) (t u : ℕ) (v : Held) → length (kept key t v) ≡ length (layout key u v)
-kept-size key t u v = ap length (kept-flat key t v) ∙ same_size t u (flat key v) ∙ ap length (sym (layout-flat key u v))
-
-pub kept-records : (key : ℕ → Text) (t : ℕ) (v : Held) → length (kept key t v) ≡ record_size (named key v)
-unfolding layout
-kept-records key t v = kept-size key t 0 v ∙ length-records 0 (named key v)
-
--- what is inside an array or object is as long as its record says
-pub all-records : (key : ℕ → Text) (t : ℕ) (vs : Helds) → length (kept_all key t vs) ≡ value_record_sizes (named_all key vs)
-unfolding kept named record_size two
-all-records key t vs = let e = kept-records key t (listed vs) in omega arith
-
-pub fields-records : (key : ℕ → Text) (t : ℕ) (ms : HeldFields) → length (kept_fields key t ms) ≡ member_record_sizes (named_fields key ms)
-unfolding kept named record_size two
-fields-records key t ms = let e = kept-records key t (keyed ms) in omega arith
-
-pub kept-length : (key : ℕ → Text) (t u : ℕ) (v : Held) → length (kept key t v) ≡ length (kept key u v)
-kept-length key t u v = ap length (kept-flat key t v) ∙ same_size t 0 (flat key v) ∙ sym (same_size u 0 (flat key v)) ∙ ap length (sym (kept-flat key u v))
 
 scalar-some : (t : ℕ) (x : Scalar) → 1 ≤ length (scalar_record t x)
 unfolding scalar_record text_record two
@@ -89,6 +67,3 @@ words-extent (plain b ∷ rs) = words-extent rs
 words-extent (head b n m ∷ rs) = words-extent rs
 words-extent (word b t ∷ rs) = omega (arith, words-extent rs, length-append t (texts_of rs))
 words-extent (name k t ∷ rs) = omega (arith, words-extent rs, length-append t (texts_of rs))
-
-pub value-extent : (key : ℕ → Text) (v : Held) → extent (words_of (flat key v)) ≡ text_size (named key v)
-value-extent key v = words-extent (flat key v) ∙ flat-size key v

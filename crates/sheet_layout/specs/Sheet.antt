@@ -10,8 +10,9 @@ use Rattle.std.proofs.lemmas.List.Edits.{sets, sets-eq}
 use Rattle.std.proofs.Math.Seq.{drop-append_seam}
 use Rattle.rules.specs.Bytes.{Text}
 use Rattle.sheet_kept.specs.Kept.{Held, kept, layout}
-use Rattle.sheet_kept.specs.InTurn.{Rec, text_of, kept_rec, in_turn, texts_of, flat, flat-size, kept-flat, layout-flat}
-use Rattle.sheet_kept.specs.Sizes.{kept-size, kept-records}
+use Rattle.sheet_kept.specs.InTurn.{Rec, text_of, kept_rec, in_turn, texts_of, flat}
+use Rattle.sheet_kept.proofs.InTurn.{flat-size, kept-flat, layout-flat}
+use Rattle.sheet_kept.proofs.Sizes.{kept-size, kept-records}
 use Rattle.sheet_forms.specs.Model.{record_c, code_of, size_of, text_len_of}
 use Rattle.sheet_forms.specs.Sheet.{Rights, flat-right, record_of, rec_form, read, record-code, record-some, record-size, record-more}
 use Rattle.sheet_layout.specs.Model.{lays_by, lays, eq_at}

@@ -155,7 +155,7 @@ unfolding same
 without k no-members = no-members
 without k (member i v ms) = elim (same i k) [ true ↦ without k ms | false ↦ member i v (without k ms) ]
 
-others-stay : (k : Text) (change : Answer → Answer) (ms : Members) → without k (set_member k change ms) ≡ without k ms
+pub others-stay : (k : Text) (change : Answer → Answer) (ms : Members) → without k (set_member k change ms) ≡ without k ms
 unfolding set_member without
 others-stay k change no-members = go (change none)
   where
@@ -181,7 +181,7 @@ keys_of (member k v ms) = k ∷ keys_of ms
 
 module _ (k : Text) (change : Answer → Answer) where
   -- a member that is changed stays in its place
-  keys-same : (ms : Members) (v w : Value) → member_of k ms ≡ some v → change (some v) ≡ some w → keys_of (set_member k change ms) ≡ keys_of ms
+  pub keys-same : (ms : Members) (v w : Value) → member_of k ms ≡ some v → change (some v) ≡ some w → keys_of (set_member k change ms) ≡ keys_of ms
   unfolding set_member member_of keys_of
   keys-same no-members v w m c = clash (cc)
   keys-same (member i u ms) v w m c = go (same i k) m (λ e. keys-same ms v w e c)
@@ -198,7 +198,7 @@ module _ (k : Text) (change : Answer → Answer) where
       go false e ih = ap (λ (js : List Text). i ∷ js) (ih e)
 
   -- and a new one goes last
-  keys-more : (ms : Members) (w : Value) → member_of k ms ≡ none → change none ≡ some w
+  pub keys-more : (ms : Members) (w : Value) → member_of k ms ≡ none → change none ≡ some w
       → keys_of (set_member k change ms) ≡ keys_of ms ++ (k ∷ [])
   unfolding set_member member_of keys_of
   keys-more no-members w m c = made (change none) c
@@ -223,12 +223,7 @@ pub record OnlyAt (k : Text) (ms ns : Members) : Type 0 where
   pub in_place : (v w : Value) → member_of k ms ≡ some v → member_of k ns ≡ some w → keys_of ns ≡ keys_of ms
   pub last : (w : Value) → member_of k ms ≡ none → member_of k ns ≡ some w → keys_of ns ≡ keys_of ms ++ (k ∷ [])
 
-pub set-only : (k : Text) (change : Answer → Answer) (ms : Members) → DistinctMembers ms → OnlyAt k ms (set_member k change ms)
-set-only k change ms d = record {
-  others = others-stay k change ms;
-  in_place = λ v w m n. keys-same k change ms v w m (ap change (sym m) ∙ sym (own-member k change ms d) ∙ n);
-  last = λ w m n. keys-more k change ms w m (ap change (sym m) ∙ sym (own-member k change ms d) ∙ n);
-}
+-- That an edit makes such a difference is shown in proofs/Edits.antt.
 
 -- ---- along a path
 

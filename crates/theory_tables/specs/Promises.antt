@@ -11,17 +11,17 @@ use Rattle.answers.specs.Ask.{mem}
 use Rattle.answers.specs.Theory.Sound.{clash}
 use Rattle.rules.specs.Sizes.{max_room, max_path_text}
 use Rattle.rules.specs.Bytes.{Text}
-use Rattle.rules.specs.Refusals.{Refusal, placed, nowhere, Scan, ok, refused}
+use Rattle.rules.specs.Refusals.{Refusal, placed, nowhere, Scan, ok}
 use Rattle.rules.specs.Utf8.{ill_formed}
 use Rattle.rules.specs.Paths.{path_text}
 use Rattle.rules.specs.Values.{Value, object_of, Members, Answer, record_size, text_size, within_size}
 use Rattle.rules.specs.Sheet.{records, texts}
 use Rattle.rules.specs.LookUp.{is_whole}
-use Rattle.rules.specs.NamedValues.{value_at, Distinct, DistinctAnswer}
+use Rattle.rules.specs.NamedValues.{value_at, Distinct}
 use Rattle.rules.specs.Jobs.{room_of, Found, not_found, part_at, look_up_job}
 use Rattle.rules_tables.specs.Trees.{plain_head, Located, tree_of, distinct}
 use Rattle.rules_tables.specs.SizedTables.{sized_size, sized_records, sized_tree, sized_fits, sized_named}
-use Rattle.rules_tables.specs.Edits.{Edit, says, set_member, in_object, set_at, Outcome, becomes, edited}
+use Rattle.rules_tables.specs.Edits.{Edit, says, Outcome, becomes, edited}
 use Rattle.rules_tables.specs.Jobs.{to_sized_numbers, from_sized_numbers, edit_numbers, lendable, SizedTable, no_sized_table, to_sized_job}
 use Rattle.rules_tables.specs.Jobs.{PlainTable, no_plain_table, from_sized_job}
 use Rattle.rules_tables.specs.Jobs.{path_names, sized_part, looked_up_sized, look_up_sized_job, edit_of, editable, edited_at, Edited, unchanged}
@@ -33,7 +33,7 @@ use Rattle.theory.specs.LookUpSteps.{look-up-ill-formed, look-up-bad-path}
 use Rattle.theory.specs.SheetLookUps.{TableOf, table_of, table-whole, look-up-named, look-up-missing}
 use Rattle.theory.specs.Scanning.{Among}
 use Rattle.theory_text.specs.Choices.{by-test, by-option}
-use Rattle.theory_tables.specs.Edits.{inside, Apart, named-distinct, OnlyAt, set-only, set_apart, set-above, set-answers}
+use Rattle.theory_tables.specs.Edits.{Apart, OnlyAt}
 use Rattle.theory_tables.specs.Trees.{is_some, whole_is, nested-tree}
 use Rattle.theory_tables.specs.ReadBack.{plain_layout, laid-read}
 use Rattle.theory_tables.specs.Sized.{plain-smaller, sized-length, distinct-true, distinct-is, sized-sound, Placed, nothing, placed}
@@ -417,41 +417,7 @@ module _ (kind : ℕ) (table text path value value_text : List ℕ) (table_lengt
     pub above_same : (q : List Text) (k : Text) (r : List Text) → names ≡ q ++ (k ∷ r) → (ms : Members)
         → value_at q before ≡ some (object_of ms) → (ns : Members) × (value_at q after ≡ some (object_of ns)) × OnlyAt k ms ns
 
-  pub edit-done : result.number ≡ 0 → Done
-  unfolding set_at in_object
-  edit-done z = go edit-told
-    where
-      above-is : (before after : Value) (edit : Edit) → Distinct before → (p : List Text) → set_at p (says edit) (some before) ≡ some after
-          → (q : List Text) (k : Text) (r : List Text) → p ≡ q ++ (k ∷ r) → (ms : Members) → value_at q before ≡ some (object_of ms)
-          → (ns : Members) × (value_at q after ≡ some (object_of ns)) × OnlyAt k ms ns
-      above-is before after edit d p set q k r e ms named =
-          let changed : value_at q after ≡ set_at (k ∷ r) (says edit) (value_at q before) =
-          ap (inside q) (sym set ∙ ap (λ (y : List Text). set_at y (says edit) (some before)) e)
-          ∙ set-above (says edit) q k r (some before) d in
-          let inner : DistinctAnswer (some (object_of ms)) = subst DistinctAnswer named (named-distinct q (some before) d) in
-          let change = set_at r (says edit) in
-          (set_member k change ms, changed ∙ ap (set_at (k ∷ r) (says edit)) named, set-only k change ms inner)
-
-      go : EditTold result → Done
-      go (not_done x n q) = clash (cc)
-      go (done short v w e k ks end tree asked path-is c new lent within q) =
-          let d = (sized-sound table text v tree).keys in
-          record {
-            before = v;
-            after = w;
-            edit = e;
-            names = k ∷ ks;
-            end = end;
-            short-path-is = short;
-            lent-tree = tree;
-            asked = asked;
-            path-is = path-is;
-            new-tree = new;
-            new-lent = lent;
-            answers = ap (inside (k ∷ ks)) (sym c.set) ∙ set-answers (says e) k ks v c.parent d c.in-object;
-            apart-same = λ q a. ap (inside q) (sym c.set) ∙ set_apart (says e) (k ∷ ks) q (some v) d a;
-            above_same = above-is v w e d (k ∷ ks) c.set;
-          }
+  -- (that it has is `edit-done` of proofs/Promises.antt)
 
   -- by look-up in the new table: the new value's records
   pub edited-found : (d : Done) → (new : Value) → says d.edit ≡ some new

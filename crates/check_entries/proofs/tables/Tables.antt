@@ -16,7 +16,7 @@ use Rattle.rules.specs.Sheet.{records, texts}
 use Rattle.theory.specs.Layout.{both_true, length-texts}
 use Rattle.theory_check.specs.Steps.{root-large, table-length, text-length, table-differs, check-accepts}
 use Rattle.sheet_kept.specs.Kept.{Held, named, layout}
-use Rattle.sheet_kept.specs.Sizes.{kept-records}
+use Rattle.sheet_kept.proofs.Sizes.{kept-records}
 use Rattle.sheet_sizes.specs.Clauses.{WithinIs}
 use Rattle.sheet_sizes.specs.declared.Sizes.{Sizes}
 use Rattle.eval_writer.specs.Clauses.{InRoom}

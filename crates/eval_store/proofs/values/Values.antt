@@ -11,7 +11,7 @@ use Rattle.rules.specs.Sizes.{max_records}
 use Rattle.rules.specs.Sheet.{texts}
 use Rattle.text_chars.specs.Parts.{part, back, part-is, back_is}
 use Rattle.sheet_kept.specs.Kept.{Held, named, kept}
-use Rattle.sheet_kept.specs.Sizes.{kept-length}
+use Rattle.sheet_kept.proofs.Sizes.{kept-length}
 use Rattle.sheet_kept.specs.Sets.{take-sets, drop-sets}
 use Rattle.sheet_kept.specs.Standing.{both-stand}
 use Rattle.sheet_forms.specs.declared.Form.{Form}
