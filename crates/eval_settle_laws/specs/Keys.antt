@@ -3,7 +3,7 @@ use Rattle.std.specs.Prelude.{◌≡◌, List, ◌∷◌, ℕ, ◌+◌, ◌≤�
 use Rattle.std.proofs.Math.Path.{refl, ap}
 use Rattle.std.proofs.Common.{sym, ◌∙◌}
 use native.Mathlib.Omega.{arith}
-use Rattle.answers.specs.Ask.{value, missing, Trail, lookup}
+use Rattle.answers.specs.Ask.{Out, value, missing, Trail, lookup}
 use Rattle.answers.specs.Resolve.{Res, answer, refused, dry, after}
 use Rattle.rules.specs.Bytes.{Text}
 use Rattle.rules.specs.Sizes.{max_room}
@@ -53,6 +53,20 @@ module _ (M : Memory) (Q : ℕ → List Layer → Type 0) where
   taken_as (Taken.One c) (value (one l)) (one-shows s) = (l, refl, s)
   taken_as (Taken.Needs a) (missing b) (needs-shows e) = ap (λ (n : ℕ). missing n) (sym e)
   taken_as (Taken.Merged t) (value (merged os)) (merged-shows q) = (os, refl, q)
+  taken_as Taken.Nothing (value (one l)) x4 = elim x4 [ ]
+  taken_as Taken.Nothing (value (merged os)) x5 = elim x5 [ ]
+  taken_as Taken.Nothing (Out.refused _) x4 = elim x4 [ ]
+  taken_as Taken.Nothing (missing b) x4 = elim x4 [ ]
+  taken_as (Taken.One c) (value nothing) x5 = elim x5 [ ]
+  taken_as (Taken.One c) (value (merged os)) x6 = elim x6 [ ]
+  taken_as (Taken.One c) (Out.refused _) x5 = elim x5 [ ]
+  taken_as (Taken.One c) (missing b) x5 = elim x5 [ ]
+  taken_as (Taken.Needs a) (value _) x5 = elim x5 [ ]
+  taken_as (Taken.Needs a) (Out.refused _) x6 = elim x6 [ ]
+  taken_as (Taken.Merged t) (value nothing) x7 = elim x7 [ ]
+  taken_as (Taken.Merged t) (value (one l)) x8 = elim x8 [ ]
+  taken_as (Taken.Merged t) (Out.refused _) x7 = elim x7 [ ]
+  taken_as (Taken.Merged t) (missing b) x7 = elim x7 [ ]
 
 -- ---- the first of the keys that are left, at each level
 
