@@ -71,6 +71,13 @@ module _ {document environment : List ℕ} {budget : ℕ} {b c f b' c' f' : List
   out : bits.Unpacks (resolved_told job)
   out = resolve-unpacks document environment budget (length b) (length c) (length f)
 
+  -- line and count, as the proofs below cite them
+  line_out : bits.line_in r ≡ job.line
+  line_out = ap bits.line_in run.answer ∙ out.line
+
+  count_out : bits.count_in r ≡ job.count
+  count_out = ap bits.count_in run.answer ∙ out.count
+
   -- "count, number and place": what the header's functions take out of the bits is what the job of the rules gives
   pub number_is : bits.number_in r ≡ job.number
   number_is = ap bits.number_in run.answer ∙ out.number
@@ -82,13 +89,13 @@ module _ {document environment : List ℕ} {budget : ℕ} {b c f b' c' f' : List
   place_is = ap bits.place_in run.answer ∙ out.place
 
   pub line-is : bits.line_in r ≡ job.line
-  line-is = ap bits.line_in run.answer ∙ out.line
+  line-is = line_out
 
   pub column-is : bits.column_in r ≡ job.column
   column-is = ap bits.column_in run.answer ∙ out.column
 
   pub count-told : bits.count_in r ≡ job.count
-  count-told = ap bits.count_in run.answer ∙ out.count
+  count-told = count_out
 
   -- what is handed back: so many bytes of each buffer
   abbrev pub trail_back : List ℕ
@@ -138,7 +145,7 @@ module _ {document environment : List ℕ} {budget : ℕ} {b c f b' c' f' : List
         ap (λ (x : J.Buffers). x.trail) bytes,
         ap (λ (x : J.Buffers). x.table) bytes,
         ap (λ (x : J.Buffers). x.text) bytes,
-        count-told ∙ count,
+        count_out ∙ count,
       )
 
   -- "A refusal is a number and a place from document 01's list"
@@ -153,7 +160,7 @@ module _ {document environment : List ℕ} {budget : ℕ} {b c f b' c' f' : List
   -- "every refusal with a place in a document carries all three", and "All other places .. have line 0 and column 0"
   pub resolve-position : PositionFor document (bits.number_in r) (bits.place_in r) (bits.line_in r) (bits.column_in r)
   resolve-position =
-      rw (place_is, line-is, column-is, number_is)
+      rw (place_is, line_out, column-is, number_is)
       (promises.resolve-position document environment budget (length b) (length c) (length f))
 
   module _ (z : bits.number_in r ≡ 0) where
@@ -168,21 +175,24 @@ module _ {document environment : List ℕ} {budget : ℕ} {b c f b' c' f' : List
         ≡ answer v S (bits.count_in r))
         × LaidOut S v trail_back table_back text_back
     handed-back-is =
-        rw (count-told, trail_is, table_is, text-is)
+        rw (count_out, trail_is, table_is, text-is)
         (promises.resolved-is document environment budget (length b) (length c) (length f) (succeeds z))
 
     -- the count is that of the entries in the trail's bytes
     pub count-is : bits.count_in r ≡ entries_in trail_back text_back
     count-is =
-        rw (count-told, trail_is, text-is) (demands.count-is document environment budget (length b) (length c) (length f) (succeeds z))
+        rw (count_out, trail_is, text-is) (demands.count-is document environment budget (length b) (length c) (length f) (succeeds z))
 
-    -- ---- demand 3: "Whatever the budget and the buffers, every sheet that resolution hands back .. is accepted": dz_check answers 0
-
-    pub handed-back-accepted : {v : ℕ} → Checked document environment trail_back table_back text_back v → v ≡ 0
-    handed-back-accepted check =
+    -- what is handed back is accepted, as the proofs below cite it
+    yes_back : {w : ℕ} (check : Checked document environment trail_back table_back text_back w) → w ≡ 0
+    yes_back check =
         check.is ∙ (checked-yes document environment trail_back table_back text_back).1
         (rw (trail_is, table_is, text-is)
         (demands.resolved-accepted document environment budget (length b) (length c) (length f) (succeeds z)))
+
+    -- ---- demand 3: "Whatever the budget and the buffers, every sheet that resolution hands back .. is accepted": dz_check answers 0
+    pub handed-back-accepted : {v : ℕ} → Checked document environment trail_back table_back text_back v → v ≡ 0
+    handed-back-accepted check = yes_back check
 
     -- "So is every reordering of that sheet in which each blend stands after those it needs": and only then
     pub reordered-accepted : {trail table text : List ℕ} (p : Reordering trail_back table_back text_back trail table text)
@@ -212,7 +222,7 @@ module _ {document environment : List ℕ} {b c f b' c' f' : List ℕ} {r : ℕ}
   refused-exactly = (
     λ h trail table text check. h (accepted-resolves check).0,
     λ never z. never (trail_back run) (table_back run) (text_back run)
-        (record { is = sym (handed-back-accepted run z (record { is = refl })) }),
+        (record { is = sym (yes_back run z (record { is = refl })) }),
   )
 
 -- ---- dz_check
