@@ -14,18 +14,22 @@ BEGIN { OPEN = "\002"; CLOSE = "\003"; BETWEEN = "\001"; label = name; at = why 
 /^new:/ { new = substr($0, 5); sub(/^ /, "", new); change(); next }
 /^[a-z_0-9]+: / { label = $1; sub(/:$/, "", label); at = why = "-" }
 
-function change(    line, i, where, here, whole) {
-    where = 0; here = 0; antt = file !~ /^src\//
-    while ((getline line < (crate "/" file)) > 0) {
-        here++
-        i = index(line, old)
-        if (!i || where) continue
-        where = here
-        whole = line
-        line = substr(line, 1, i - 1) new substr(line, i + length(old))
-        becomes = antt && whole ~ /^ *((pub )?use|unfolding|--) / ? "names" : said(whole) == said(line) ? "same" : "other"
+# As rt applies it: to the text as the changes before it left it.
+function change(    line, i, where, here) {
+    where = 0; antt = file !~ /^src\//
+    if (!(file in lines)) {
+        lines[file] = 0
+        while ((getline line < (crate "/" file)) > 0) text[file, ++lines[file]] = line
+        close(crate "/" file)
     }
-    close(crate "/" file)
+    for (here = 1; here <= lines[file] && !where; here++) {
+        i = index(text[file, here], old)
+        if (!i) continue
+        where = here
+        line = substr(text[file, here], 1, i - 1) new substr(text[file, here], i + length(old))
+        becomes = antt && text[file, here] ~ /^ *((pub )?use|unfolding|--) / ? "names" : said(text[file, here]) == said(line) ? "same" : "other"
+        text[file, here] = line
+    }
     printf "%s\t%s\t%d\t%s\t%s\t%s\n", label, file, where, where ? becomes : "other", at, why
 }
 

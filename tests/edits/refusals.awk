@@ -43,7 +43,7 @@ function told(    file, name, rest, i) {
     printf "%s\t%s\t%s\n", file, name, why(rest, file, name)
 }
 function why(s, file, name) {
-    if (s ~ /was not admitted|which was rejected/) return "follows"
+    if (s ~ /(was|is) not admitted|which was rejected/) return "follows"
     if (file !~ /\/(Answers|Invariants|Proof)\.antt$/) return unlike(s) ? "unlike" : "form"
     return s ~ /^`(search|grind|omega|cc)`: (no proof of `|the goal )/ ? of_goal(name) : "form"
 }

@@ -223,7 +223,7 @@ module _ {T B : List ℕ} {c : ℕ} {f : Bool} (t : ArrayTold T B c f) {base i t
           → LayerGiven (answers_of key items T B) (lookup S) top levels C.depth c l → g ≡ layer_in (lookup S) (value_in (lookup S) C.depth) l
           → State x key items T B S × StepCase key (Good T items) a (then g (λ v. join_piece_in place gap v J)) r
       go x key items S place gap J g G C (written (simple y)) p h e =
-          rw s.is (scalar-step G a A.whole y q e (rw (m.literal key items y h.ground.tables.stored h.shown) at m.joined))
+          rw s.is (scalar-step G a A.whole y q e (rw (m.literal key items y h.basis.tables.stored h.shown) at m.joined))
       go x key items S place gap J g G C (written (array es)) p h e = clash (cc (z, array_told t items (written (array es)) p h))
       go x key items S place gap J g G C (written (object fs)) p h e = absurd p
       go x key items S place gap J g G C (written (unresolved n ps)) p h e = absurd p

@@ -76,10 +76,10 @@ module _ {T B : List ℕ} {c : ℕ} {f : Bool} (t : ArrayTold T B c f) {key : �
       let a = g.shown in
       let k = code-small x in
       let z = kind-only (get_or T (8 * c) 0) (code_of x) a.roles a.node.0 (omega arith) in
-      t.item (item-low (answers_of key items T B) g.ground.tables.stored a) ∙ ne_eqb (get_or T (8 * c) 0 % as_piece) 6 (λ e. omega arith)
+      t.item (item-low (answers_of key items T B) g.basis.tables.stored a) ∙ ne_eqb (get_or T (8 * c) 0 % as_piece) 6 (λ e. omega arith)
   array_told (written (array es)) n g =
       let a = g.shown in
-      t.item (item-low (answers_of key items T B) g.ground.tables.stored a)
+      t.item (item-low (answers_of key items T B) g.basis.tables.stored a)
       ∙ eq-eqb (get_or T (8 * c) 0 % as_piece) 6 (kind-only (get_or T (8 * c) 0) 6 a.roles a.node.0 (omega arith))
   array_told (written (object fs)) n g = absurd n
   array_told (written (unresolved b ps)) n g = absurd n

@@ -65,7 +65,7 @@ module _ {x : Setting} {key : ℕ → Text} {items : ℕ} {T B : List ℕ} {S : 
   objects-still {w} {lo} {hi} {levels} {d} {os} G =
       let O = G.shown in
       record {
-        ground = record { tables = state-tables still; shallow = G.ground.shallow };
+        basis = record { tables = state-tables still; shallow = G.basis.shallow };
         shown = record { from = (O.from.0, O.from.1, match-still (reverse (seg w lo (hi - lo))) os O.from.2); objects = O.objects };
         fits = G.fits;
         some = G.some;

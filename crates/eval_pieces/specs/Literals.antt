@@ -60,14 +60,14 @@ module _ {M : Memory} {known : ℕ → Option Answer} {base i : ℕ} where
     layer = written (simple x);
     is = refl;
     plain = tt;
-    given = record { ground = grounded G; shown = G.shown; fits = tt; low = omega (arith, G.low); deep = tt };
+    given = record { basis = grounded G; shown = G.shown; fits = tt; low = omega (arith, G.low); deep = tt };
   }
   literal-one (array es) G h = record {
     depth = 65;
     layer = written (array es);
     is = refl;
     plain = tt;
-    given = record { ground = grounded G; shown = G.shown; fits = omega (arith, G.fits); low = omega (arith, G.low); deep = omega (arith, G.low) };
+    given = record { basis = grounded G; shown = G.shown; fits = omega (arith, G.fits); low = omega (arith, G.low); deep = omega (arith, G.low) };
   }
   literal-one (object fs) G h = absurd (h (object-kind G.shown.role (get_or M.table (8 * i) 0) G.shown.roles G.shown.node.0 G.piece))
   literal-one (unresolved b ps) G h = absurd (omega (arith, G.shown.roles, G.shown.node.0, G.piece))
@@ -86,7 +86,7 @@ module _ {M : Memory} {known : ℕ → Option Answer} {base i : ℕ} where
       let code : code_at w' base ≡ i =
       ap (λ (z : List ℕ). code_at z base) (p.is ∙ pushed_room base i w free) ∙ get_or-set_same w (code_place base) i 0 (omega arith) in
       let L : LayerGiven M known base 65 65 i (written (object fs)) =
-      record { ground = grounded G; shown = G.shown; fits = omega (arith, G.fits); low = omega (arith, G.low); deep = omega (arith, G.low) } in
+      record { basis = grounded G; shown = G.shown; fits = omega (arith, G.fits); low = omega (arith, G.low); deep = omega (arith, G.low) } in
       record {
         depth = 64;
         objects = written (object fs) ∷ [];

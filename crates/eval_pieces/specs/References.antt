@@ -165,8 +165,8 @@ module _ {x : Setting} {M : Memory} {E : List ℕ} {known : ℕ → Option Answe
       ap (λ v. then v (λ a. or_environment_in x.environment y a))
       (value-by M known 65 layers (omega arith) ∙ ap (λ q. then q (λ c. counted_in known (value_in known 64) c)) e)
 
-  ground : Ground M known
-  ground = record { tables = G.tables; shallow = shallow-within known G.within }
+  basis : Ground M known
+  basis = record { tables = G.tables; shallow = shallow-within known G.within }
 
   pub reference-nothing : taken ≡ Taken.Nothing → given ≡ or_environment_in x.environment y none
   unfolding counted_in
@@ -192,7 +192,7 @@ module _ {x : Setting} {M : Memory} {E : List ℕ} {known : ℕ → Option Answe
         layer = l;
         is = by z ∙ layer-defined known (value_in known 64) x.environment y l q.2;
         plain = q.2;
-        given = record { ground = ground; shown = s; fits = fits l z; low = omega (arith, q.0); deep = q.1 };
+        given = record { basis = basis; shown = s; fits = fits l z; low = omega (arith, q.0); deep = q.1 };
       }
     where
       fits : (l : Layer) → gather_in known layers.0 layers.1 [] ≡ value (one l) → LayerFits M known part.hi l
@@ -215,7 +215,7 @@ module _ {x : Setting} {M : Memory} {E : List ℕ} {known : ℕ → Option Answe
         objects = os;
         is = by z ∙ merged-defined known (value_in known 64) x.environment y (merged_in known (value_in known 64) os);
         given = record {
-          ground = ground;
+          basis = basis;
           shown = m.0;
           fits = m.1;
           some = merged-high known layers.0 layers.1 os z m.0.objects;

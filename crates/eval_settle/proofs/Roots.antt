@@ -68,7 +68,7 @@ module _ {T B E w room trail text : List ℕ} {p : Progress} {budget : ℕ} (a :
 
   abbrev layer : LayerAsked T B w 0 0
   layer = record {
-    ground = ground_of (given w refl);
+    basis = ground_of (given w refl);
     sound = sound_of (given w refl);
     work = a.work;
     used = omega arith;

@@ -119,14 +119,14 @@ module _ {T B w : List ℕ} {p end top : ℕ} where
   element-source a src e = record { bytes = a.sound.bytes; records = omega (arith, a.sound.state.document.bytes) }
 
   abbrev M₀ : ElementAsked T B w p end top → Memory
-  M₀ a = used_of a.ground.key a.ground.items a.at.T₀ a.at.B₀ a.at.S₀
+  M₀ a = used_of a.basis.key a.basis.items a.at.T₀ a.at.B₀ a.at.S₀
 
   -- those from a place on
   abbrev Fits : ElementAsked T B w p end top → Elements → Type 0
-  Fits a es = Lasting a.ground.t a.ground.S (λ (k : ℕ → Option Answer). top + 2 * weight_of_elements k es ≤ settling_room)
+  Fits a es = Lasting a.basis.t a.basis.S (λ (k : ℕ → Option Answer). top + 2 * weight_of_elements k es ≤ settling_room)
 
   abbrev from : (a : ElementAsked T B w p end top) (x : List ℕ) (q : ℕ) (es : Elements) → ElementsShown (M₀ a) q end es
-      → AllElements (InRange (questions_of a.ground.t)) es → Fits a es → ElementsFrom a.ground x q end top es
+      → AllElements (InRange (questions_of a.basis.t)) es → Fits a es → ElementsFrom a.basis x q end top es
   from a x q es s n f = record {
     used = a.at.used;
     T₀ = a.at.T₀;
@@ -153,7 +153,7 @@ module _ {T : List ℕ} (B : List ℕ) {p end : ℕ} {v : Member} (m : MemberIs 
     left = left-all;
     is = λ a.
         let z : a.es ≡ no-elements = rw e at (met a) in
-        let g = a.ground in
+        let g = a.basis in
         record {
           inner = elements no-elements;
           shows = tt;
@@ -184,39 +184,39 @@ module _ {T : List ℕ} (B : List ℕ) {p end : ℕ} {v : Member} (m : MemberIs 
     step : (a : ElementAsked T B w p end top) → ElementStep (M₀ a) end a.es (Member.At i q)
     step a = rw z at (met a)
 
-    numbers : (a : ElementAsked T B w p end top) → AllElements (InRange (questions_of a.ground.t)) (element (step a).0 (step a).1)
-    numbers a = subst (AllElements (InRange (questions_of a.ground.t))) (step a).2 a.at.numbered
+    numbers : (a : ElementAsked T B w p end top) → AllElements (InRange (questions_of a.basis.t)) (element (step a).0 (step a).1)
+    numbers a = subst (AllElements (InRange (questions_of a.basis.t))) (step a).2 a.at.numbered
 
     weighs : (a : ElementAsked T B w p end top) (S : Trail Answer)
         → weight_of_elements (lookup S) a.es ≡ weight_of (lookup S) (step a).0 + weight_of_elements (lookup S) (step a).1
     unfolding weight_of
     weighs a S = ap (weight_of_elements (lookup S)) (step a).2
 
-    behind : (a : ElementAsked T B w p end top) (x : List ℕ) → ElementsFrom a.ground x q end top (step a).1
+    behind : (a : ElementAsked T B w p end top) (x : List ℕ) → ElementsFrom a.basis x q end top (step a).1
     behind a x = from a x q (step a).1 (step a).4 (numbers a).1 (record { is = λ S j l. omega (arith, a.at.fits.is S j l, weighs a S) })
 
-    unfolded : (a : ElementAsked T B w p end top) (levels : ℕ) → settle_elements_c a.ground.t levels a.es a.ground.S a.ground.n
-        ≡ after (settle_element_c a.ground.t levels (step a).0 a.ground.S a.ground.n) (λ _ S' n'. settle_elements_c a.ground.t levels (step a).1 S' n')
+    unfolded : (a : ElementAsked T B w p end top) (levels : ℕ) → settle_elements_c a.basis.t levels a.es a.basis.S a.basis.n
+        ≡ after (settle_element_c a.basis.t levels (step a).0 a.basis.S a.basis.n) (λ _ S' n'. settle_elements_c a.basis.t levels (step a).1 S' n')
     unfolded a levels =
-        ap (λ (es : Elements). settle_elements_c a.ground.t levels es a.ground.S a.ground.n) (step a).2
-        ∙ first a.ground.t levels (step a).0 (step a).1 a.ground.S a.ground.n
+        ap (λ (es : Elements). settle_elements_c a.basis.t levels es a.basis.S a.basis.n) (step a).2
+        ∙ first a.basis.t levels (step a).0 (step a).1 a.basis.S a.basis.n
 
     -- then the others
     abbrev onward : (a : ElementAsked T B w p end top) (levels : ℕ) → Ended Refusal Answer → Ended Refusal Answer
-    onward a levels e = after e (λ _ S' n'. settle_elements_c a.ground.t levels (step a).1 S' n')
+    onward a levels e = after e (λ _ S' n'. settle_elements_c a.basis.t levels (step a).1 S' n')
 
     module _ {y : Answered} (h : AnsweredIs T i y) where
-      found : (a : ElementAsked T B w p end top) → ElementAs a.ground top (step a).0 y
+      found : (a : ElementAsked T B w p end top) → ElementAs a.basis top (step a).0 y
       found a =
           rw h.is
-          (element-as a.ground top i (step a).0 a.sound (written-later a.at.later a.at.state.document (step a).3) (numbers a).0
+          (element-as a.basis top i (step a).0 a.sound (written-later a.at.later a.at.state.document (step a).3) (numbers a).0
           (record { is = λ S j l. omega (arith, a.at.fits.is S j l, weighs a S) }))
 
       pub element-undefined : y ≡ Answered.Undefined → ElementIs T B p end top w w (record { need = Need.Nothing; next = q })
       element-undefined e = record {
         left = left-all;
         is = λ a.
-            let f : ElementAs a.ground top (step a).0 Answered.Undefined = rw e at (found a) in
+            let f : ElementAs a.basis top (step a).0 Answered.Undefined = rw e at (found a) in
             record {
               inner = elements no-elements;
               shows = tt;
@@ -231,7 +231,7 @@ module _ {T : List ℕ} (B : List ℕ) {p end : ℕ} {v : Member} (m : MemberIs 
       element-missing {b} e = record {
         left = left-all;
         is = λ a.
-            let f : ElementAs a.ground top (step a).0 (Answered.Missing b) = rw e at (found a) in
+            let f : ElementAs a.basis top (step a).0 (Answered.Missing b) = rw e at (found a) in
             record {
               inner = elements no-elements;
               shows = (f.1, f.2);
@@ -243,13 +243,13 @@ module _ {T : List ℕ} (B : List ℕ) {p end : ℕ} {v : Member} (m : MemberIs 
       }
 
       module _ {c : ℕ} (e : y ≡ Answered.Layer c) where
-        layer : (a : ElementAsked T B w p end top) → LayerHere a.ground top (step a).0 c
+        layer : (a : ElementAsked T B w p end top) → LayerHere a.basis top (step a).0 c
         layer a = rw e at (found a)
 
         abbrev asked : ElementAsked T B w p end top → LayerAsked T B w top c
         asked a =
             let f = layer a in
-            record { ground = a.ground; sound = a.sound; work = a.work; used = a.at.used; l = f.l; shown = f.shown; numbered = f.numbered; fits = f.fits }
+            record { basis = a.basis; sound = a.sound; work = a.work; used = a.at.used; l = f.l; shown = f.shown; numbered = f.numbered; fits = f.fits }
 
         pub element-layer : {w' : List ℕ} {r : Need} → LayerIs T B top c w w' r → ElementIs T B p end top w w' (record { need = r; next = q })
         element-layer {w'} N = record {

@@ -3,7 +3,7 @@ use Rattle.std.specs.Prelude.{◌≡◌, List, ◌∷◌, ℕ, ◌+◌, ◌≤�
 use Rattle.std.proofs.Math.Path.{refl, ap}
 use Rattle.std.proofs.Common.{sym, ◌∙◌}
 use native.Mathlib.Omega.{arith}
-use Rattle.answers.specs.Ask.{value, missing, Trail, lookup}
+use Rattle.answers.specs.Ask.{Out, value, missing, Trail, lookup}
 use Rattle.answers.specs.Resolve.{Res, answer, refused, dry, after}
 use Rattle.rules.specs.Bytes.{Text}
 use Rattle.rules.specs.Sizes.{max_room}
@@ -53,6 +53,20 @@ module _ (M : Memory) (Q : ℕ → List Layer → Type 0) where
   taken_as (Taken.One c) (value (one l)) (one-shows s) = (l, refl, s)
   taken_as (Taken.Needs a) (missing b) (needs-shows e) = ap (λ (n : ℕ). missing n) (sym e)
   taken_as (Taken.Merged t) (value (merged os)) (merged-shows q) = (os, refl, q)
+  taken_as Taken.Nothing (value (one l)) x4 = elim x4 [ ]
+  taken_as Taken.Nothing (value (merged os)) x5 = elim x5 [ ]
+  taken_as Taken.Nothing (Out.refused _) x4 = elim x4 [ ]
+  taken_as Taken.Nothing (missing b) x4 = elim x4 [ ]
+  taken_as (Taken.One c) (value nothing) x5 = elim x5 [ ]
+  taken_as (Taken.One c) (value (merged os)) x6 = elim x6 [ ]
+  taken_as (Taken.One c) (Out.refused _) x5 = elim x5 [ ]
+  taken_as (Taken.One c) (missing b) x5 = elim x5 [ ]
+  taken_as (Taken.Needs a) (value _) x5 = elim x5 [ ]
+  taken_as (Taken.Needs a) (Out.refused _) x6 = elim x6 [ ]
+  taken_as (Taken.Merged t) (value nothing) x7 = elim x7 [ ]
+  taken_as (Taken.Merged t) (value (one l)) x8 = elim x8 [ ]
+  taken_as (Taken.Merged t) (Out.refused _) x7 = elim x7 [ ]
+  taken_as (Taken.Merged t) (missing b) x7 = elim x7 [ ]
 
 -- ---- the first of the keys that are left, at each level
 
@@ -95,7 +109,7 @@ module _ {T B w : List ℕ} {p top : ℕ} (a : KeyAsked T B w p top) where
   -- the members have room
   key-low : top ≤ settling_room
   key-low =
-      let G = a.ground in
+      let G = a.basis in
       let f : Roomy (lookup G.S) settling_room a.at.base a.os = lasting-now a.sound a.at.fits in
       omega (arith, level-top (memory_of G) a.at.shown, members-fit (lookup G.S) settling_room a.at.base a.os f)
 
@@ -113,11 +127,11 @@ module _ {T B w : List ℕ} {p top : ℕ} (a : KeyAsked T B w p top) where
 
   -- the keys from the next entry on, where the stack below top stays
   abbrev behind : List Text
-  behind = keys_from (memory_of a.ground) w (p + 1) top
+  behind = keys_from (memory_of a.basis) w (p + 1) top
 
-  moved : {x : List ℕ} → Left top w x → KeysFrom a.ground x (p + 1) top top a.os behind
+  moved : {x : List ℕ} → Left top w x → KeysFrom a.basis x (p + 1) top top a.os behind
   moved {x} l =
-      let M = memory_of a.ground in
+      let M = memory_of a.basis in
       record {
         base = a.at.base;
         low = omega (arith, a.at.low);
@@ -137,14 +151,14 @@ take_left {w = w} {w' = w'} {top = top} k = record { below = same-below top w w'
 
 module _ {T B w : List ℕ} {p top : ℕ} (a : KeyAsked T B w p top) where
   abbrev G : Ground T B
-  G = a.ground
+  G = a.basis
 
   abbrev M : Memory
-  M = memory_of a.ground
+  M = memory_of a.basis
 
   -- the key
   abbrev its : Text
-  its = a.ground.key (keys_at (key_number_of M) w p)
+  its = a.basis.key (keys_at (key_number_of M) w p)
 
   tables : Tables M (lookup G.S)
   tables = used-tables a.sound.state
@@ -181,7 +195,7 @@ module _ {T : List ℕ} (B : List ℕ) {w w' : List ℕ} {p top : ℕ} {tk : Tak
   key-nothing e = record {
     left = take_left k;
     is = λ a.
-        let z : key_in a.os (its a) (lookup a.ground.S) ≡ value nothing = rw e at (shown a k) in
+        let z : key_in a.os (its a) (lookup a.basis.S) ≡ value nothing = rw e at (shown a k) in
         record {
           inner = elements no-elements;
           shows = tt;
@@ -197,7 +211,7 @@ module _ {T : List ℕ} (B : List ℕ) {w w' : List ℕ} {p top : ℕ} {tk : Tak
   key-needs {b} e = record {
     left = take_left k;
     is = λ a.
-        let g = a.ground in
+        let g = a.basis in
         let z : key_in a.os (its a) (lookup g.S) ≡ missing b = rw e at (shown a k) in
         let read = a.sound.state.document.read in
         let y : ready_c g.t a.os (its a) g.S g.n ≡ after (work_c g.t b g.S g.n) (λ _ S' n'. ready_c g.t a.os (its a) S' n') =
@@ -225,28 +239,28 @@ module _ {T : List ℕ} (B : List ℕ) {w w' : List ℕ} {p top : ℕ} {tk : Tak
 
   -- one layer
   module _ {c : ℕ} (e : tk ≡ Taken.One c) where
-    one_of : (a : KeyAsked T B w p top) → TakenAs (M a) (Merging (M a) (lookup a.ground.S) (tables a) top w') (key_in a.os (its a) (lookup a.ground.S)) (Taken.One c)
+    one_of : (a : KeyAsked T B w p top) → TakenAs (M a) (Merging (M a) (lookup a.basis.S) (tables a) top w') (key_in a.os (its a) (lookup a.basis.S)) (Taken.One c)
     one_of a = rw e at (shown a k)
 
     abbrev one-asked : KeyAsked T B w p top → LayerAsked T B w' top c
     one-asked a =
         let z = one_of a in
         record {
-          ground = a.ground;
+          basis = a.basis;
           sound = a.sound;
           work = omega (arith, a.work, k.is.len);
           used = key-low a;
           l = z.0;
           shown = z.2;
           numbered = (done a (one z.0) z.1).1;
-          fits = one-room a.ground.t a.ground.S a.os (its a) a.at.base a.at.shown.objects a.at.fits z.0 z.1 top (level-top (M a) a.at.shown);
+          fits = one-room a.basis.t a.basis.S a.os (its a) a.at.base a.at.shown.objects a.at.fits z.0 z.1 top (level-top (M a) a.at.shown);
         }
 
     pub key_one : {w'' : List ℕ} {r : Need} → LayerIs T B top c w' w'' r → KeyIs T B p top w w'' (record { need = r; next = p + 1 })
     key_one N = record {
       left = left-then (take_left k) N.left;
       is = λ a.
-          let g = a.ground in
+          let g = a.basis in
           let z = one_of a in
           let x = N.is (one-asked a) in
           record {
@@ -263,7 +277,7 @@ module _ {T : List ℕ} (B : List ℕ) {w w' : List ℕ} {p top : ℕ} {tk : Tak
 
   -- objects that merge
   module _ {hi : ℕ} (e : tk ≡ Taken.Merged hi) where
-    merged-of : (a : KeyAsked T B w p top) → TakenAs (M a) (Merging (M a) (lookup a.ground.S) (tables a) top w') (key_in a.os (its a) (lookup a.ground.S)) (Taken.Merged hi)
+    merged-of : (a : KeyAsked T B w p top) → TakenAs (M a) (Merging (M a) (lookup a.basis.S) (tables a) top w') (key_in a.os (its a) (lookup a.basis.S)) (Taken.Merged hi)
     merged-of a = rw e at (shown a k)
 
     abbrev merged-asked : KeyAsked T B w p top → ObjectsAsked T B w' top hi
@@ -271,13 +285,13 @@ module _ {T : List ℕ} (B : List ℕ) {w w' : List ℕ} {p top : ℕ} {tk : Tak
         let z = merged-of a in
         let o = z.2.0 in
         record {
-          ground = a.ground;
+          basis = a.basis;
           sound = a.sound;
           work = omega (arith, a.work, k.is.len);
           os = z.0;
           shown = o;
           numbered = (done a (merged z.0) z.1).1;
-          fits = merged-room a.ground.t a.ground.S a.os (its a) a.at.base a.at.shown.objects a.at.fits z.0 o.objects z.1 hi
+          fits = merged-room a.basis.t a.basis.S a.os (its a) a.at.base a.at.shown.objects a.at.fits z.0 o.objects z.1 hi
               (objects-size (M a) o ∙ ap (λ (i : ℕ). i + length z.0) (level-top (M a) a.at.shown));
         }
 
@@ -285,7 +299,7 @@ module _ {T : List ℕ} (B : List ℕ) {w w' : List ℕ} {p top : ℕ} {tk : Tak
     key-merged N = record {
       left = left-then (take_left k) N.left;
       is = λ a.
-          let g = a.ground in
+          let g = a.basis in
           let z = merged-of a in
           let x = N.is (merged-asked a) in
           record {

@@ -170,23 +170,23 @@ key_span hi end = record { kind = Kind.Keys; from = hi; end = end; top = end }
 module _ {T B w : List ℕ} {top c : ℕ} where
   -- nothing is needed
   nothing-needed : ((a : LayerAsked T B w top c) (levels : ℕ)
-      → settle_node_c a.ground.t levels a.l a.ground.S a.ground.n ≡ answer tt a.ground.S a.ground.n)
+      → settle_node_c a.basis.t levels a.l a.basis.S a.basis.n ≡ answer tt a.basis.S a.basis.n)
       → LayerIs T B top c w w Need.Nothing
   nothing-needed f = record { left = left-all; is = λ a. record { inner = elements no-elements; shows = tt; is = f a } }
 
   pub layer-finished : capacity ≤ c → LayerIs T B top c w w Need.Nothing
-  layer-finished h = nothing-needed (λ a levels. finished a.ground a.sound levels a.l h a.shown a.numbered)
+  layer-finished h = nothing-needed (λ a levels. finished a.basis a.sound levels a.l h a.shown a.numbered)
 
   module _ {k : ℕ} (below : c < capacity) (read : ReadIs T (8 * c) k) where
     pub layer-plain : (k % 16 ≡ 6 → ⊥) → (k % 16 ≡ 7 → ⊥) → LayerIs T B top c w w Need.Nothing
-    layer-plain x y = nothing-needed (λ a levels. plain a.ground a.sound read below levels a.l x y a.shown)
+    layer-plain x y = nothing-needed (λ a levels. plain a.basis a.sound read below levels a.l x y a.shown)
 
     pub layer-array : {z : ℕ} → k % 16 ≡ 6 → ReadIs T (8 * c + 1) z
         → LayerIs T B top c w w (Need.Inside (record { kind = Kind.Elements; from = c + 1; end = c + z; top = top }))
     layer-array {z} e size = record {
       left = left-all;
       is = λ a.
-          let g = a.ground in
+          let g = a.basis in
           let h = array-here g a.sound read below a.l e a.shown a.numbered a.fits in
           record {
             inner = elements h.es;
@@ -210,11 +210,11 @@ module _ {T B w : List ℕ} {top c : ℕ} where
     }
 
     module _ (e : k % 16 ≡ 7) {x : List ℕ} {hi : ℕ} (y : PushIs top c w x hi) where
-      alone : (a : LayerAsked T B w top c) → ObjectHere a.ground top x hi a.l
-      alone a = object-here a.ground a.sound read below a.l e a.used y a.work a.shown a.numbered a.fits
+      alone : (a : LayerAsked T B w top c) → ObjectHere a.basis top x hi a.l
+      alone a = object-here a.basis a.sound read below a.l e a.used y a.work a.shown a.numbered a.fits
 
       pub layer-high : LayerAsked T B w top c → hi ≤ entries
-      layer-high a = let h = alone a in omega (arith, objects-high a.ground a.sound h.shown h.numbered h.fits)
+      layer-high a = let h = alone a in omega (arith, objects-high a.basis a.sound h.shown h.numbered h.fits)
 
       pub layer-object : LayerAsked T B w top c → {w' : List ℕ} {end : ℕ} → MembersIs T (take max_room (drop trail_at B)) top hi x w' end
           → LayerIs T B top c w w' (Need.Inside (key_span hi end))
@@ -224,7 +224,7 @@ module _ {T B w : List ℕ} {top c : ℕ} where
           record {
             left = left-then (push-left A.work u y) (left-lower i.0 (record { below = m.below; len = m.len }));
             is = λ a.
-                let g = a.ground in
+                let g = a.basis in
                 let h = alone a in
                 let o = written (object h.fs) ∷ [] in
                 record {
@@ -266,7 +266,7 @@ layer-room lo hi h t S o d f = record { is = λ S' g l. go o d (lookup S') (f.is
 
 module _ {T B w : List ℕ} {lo hi : ℕ} where
   merged-high : ObjectsAsked T B w lo hi → hi ≤ settling_room
-  merged-high a = objects-high a.ground a.sound a.shown a.numbered a.fits
+  merged-high a = objects-high a.basis a.sound a.shown a.numbered a.fits
 
   -- the first of them is read
   pub objects-place : ObjectsAsked T B w lo hi → lo < number_bound
@@ -282,11 +282,11 @@ module _ {T B w : List ℕ} {lo hi : ℕ} where
   objects-source a src e = record { bytes = a.sound.bytes; records = omega (arith, a.sound.state.document.bytes) }
 
   module _ (h : hi ≡ lo + 1) where
-    single : (a : ObjectsAsked T B w lo hi) → Single (memory_of a.ground) lo w a.os
+    single : (a : ObjectsAsked T B w lo hi) → Single (memory_of a.basis) lo w a.os
     single a = go a.os (objects-size M a.shown) (subst (λ (n : ℕ). Match M (reverse (seg w lo n)) a.os) one-long a.shown.from.2)
       where
         M : Memory
-        M = memory_of a.ground
+        M = memory_of a.basis
 
         one-long : hi - lo ≡ 1
         one-long = omega arith
@@ -301,10 +301,10 @@ module _ {T B w : List ℕ} {lo hi : ℕ} where
     module _ {c : ℕ} (k : CodeIs w lo c) where
       abbrev single-asked : ObjectsAsked T B w lo hi → LayerAsked T B w lo c
       single-asked a =
-          let g = a.ground in
+          let g = a.basis in
           let s = single a in
           record {
-            ground = g;
+            basis = g;
             sound = a.sound;
             work = a.work;
             used = omega (arith, merged-high a, a.shown.from.0);
@@ -322,7 +322,7 @@ module _ {T B w : List ℕ} {lo hi : ℕ} where
       objects-single N = record {
         left = N.left;
         is = λ a.
-            let g = a.ground in
+            let g = a.basis in
             let z = N.is (single-asked a) in
             record {
               inner = z.inner;
@@ -336,7 +336,7 @@ module _ {T B w : List ℕ} {lo hi : ℕ} where
   objects-several A d {w'} {end} m = record {
     left = left-lower A.shown.from.0 (record { below = m.below; len = m.len });
     is = λ a.
-        let g = a.ground in
+        let g = a.basis in
         record {
           inner = keys a.os (keys_in_order a.os);
           shows = (omega (arith, A.shown.from.0, m.low), grouped g a.sound a.shown a.numbered a.fits a.work m);

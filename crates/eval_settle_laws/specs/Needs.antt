@@ -109,30 +109,30 @@ module _ {T B : List ℕ} (G : Ground T B) (w : List ℕ) where
 -- ---- a layer
 
 pub record LayerAsked (T B w : List ℕ) (top c : ℕ) : Type 0 where
-  pub ground : Ground T B
-  pub sound : Sound ground
+  pub basis : Ground T B
+  pub sound : Sound basis
   pub work : Work w
   pub used : top ≤ settling_room
   pub l : Layer
-  pub shown : Shows (memory_of ground) c l
-  pub numbered : NumberedLayer (questions_of ground.t) l
-  pub fits : Lasting ground.t ground.S (LayerFits top l)
+  pub shown : Shows (memory_of basis) c l
+  pub numbered : NumberedLayer (questions_of basis.t) l
+  pub fits : Lasting basis.t basis.S (LayerFits top l)
 
 pub record LayerIs (T B : List ℕ) (top c : ℕ) (w w' : List ℕ) (r : Need) : Type 0 where
   pub left : Left top w w'
   pub is : (a : LayerAsked T B w top c)
-      → Needs a.ground w' top (λ levels. settle_node_c a.ground.t levels a.l a.ground.S a.ground.n) r
+      → Needs a.basis w' top (λ levels. settle_node_c a.basis.t levels a.l a.basis.S a.basis.n) r
 
 -- ---- objects that merge, from one entry to another
 
 pub record ObjectsAsked (T B w : List ℕ) (lo hi : ℕ) : Type 0 where
-  pub ground : Ground T B
-  pub sound : Sound ground
+  pub basis : Ground T B
+  pub sound : Sound basis
   pub work : Work w
   pub os : List Layer
-  pub shown : ObjectsAt (memory_of ground) os lo hi w
-  pub numbered : Each (NumberedObject (questions_of ground.t)) os
-  pub fits : Lasting ground.t ground.S (ObjectsFit hi os)
+  pub shown : ObjectsAt (memory_of basis) os lo hi w
+  pub numbered : Each (NumberedObject (questions_of basis.t)) os
+  pub fits : Lasting basis.t basis.S (ObjectsFit hi os)
 
 -- what they come to at each level
 abbrev pub merged_c : Task → ℕ → List Layer → Trail Answer → ℕ → Ended Refusal Answer
@@ -141,47 +141,47 @@ merged_c t levels os S n = counted_by (work_c t) (questions_of t) (level_at (wor
 pub record ObjectsIs (T B : List ℕ) (lo hi : ℕ) (w w' : List ℕ) (r : Need) : Type 0 where
   pub left : Left lo w w'
   pub is : (a : ObjectsAsked T B w lo hi)
-      → Needs a.ground w' lo (λ levels. merged_c a.ground.t levels a.os a.ground.S a.ground.n) r
+      → Needs a.basis w' lo (λ levels. merged_c a.basis.t levels a.os a.basis.S a.basis.n) r
 
 -- ---- a place of a span
 
 -- the first member of a key
 pub record KeyAsked (T B w : List ℕ) (p top : ℕ) : Type 0 where
-  pub ground : Ground T B
-  pub sound : Sound ground
+  pub basis : Ground T B
+  pub sound : Sound basis
   pub work : Work w
   pub os : List Layer
   pub ks : List Text
-  pub at : KeysFrom ground w p top top os ks
+  pub at : KeysFrom basis w p top top os ks
   pub inside : p < top
   pub leads : p ≤ link_at w p
 
 pub record KeyIs (T B : List ℕ) (p top : ℕ) (w w' : List ℕ) (r : Met) : Type 0 where
   pub left : Left top w w'
-  pub is : (a : KeyAsked T B w p top) → Meets a.ground w' Kind.Keys p top top (keys a.os a.ks) r
+  pub is : (a : KeyAsked T B w p top) → Meets a.basis w' Kind.Keys p top top (keys a.os a.ks) r
 
 -- an item of an array
 pub record ElementAsked (T B w : List ℕ) (p end top : ℕ) : Type 0 where
-  pub ground : Ground T B
-  pub sound : Sound ground
+  pub basis : Ground T B
+  pub sound : Sound basis
   pub work : Work w
   pub es : Elements
-  pub at : ElementsFrom ground w p end top es
+  pub at : ElementsFrom basis w p end top es
   pub inside : p < end
 
 pub record ElementIs (T B : List ℕ) (p end top : ℕ) (w w' : List ℕ) (r : Met) : Type 0 where
   pub left : Left top w w'
-  pub is : (a : ElementAsked T B w p end top) → Meets a.ground w' Kind.Elements p end top (elements a.es) r
+  pub is : (a : ElementAsked T B w p end top) → Meets a.basis w' Kind.Elements p end top (elements a.es) r
 
 -- of either
 pub record PlaceAsked (T B w : List ℕ) (kind : Kind) (p end top : ℕ) : Type 0 where
-  pub ground : Ground T B
-  pub sound : Sound ground
+  pub basis : Ground T B
+  pub sound : Sound basis
   pub work : Work w
   pub rest : Rest
-  pub at : RestFrom ground w kind p end top rest
+  pub at : RestFrom basis w kind p end top rest
   pub inside : p < end
 
 pub record PlaceIs (T B : List ℕ) (kind : Kind) (p end top : ℕ) (w w' : List ℕ) (r : Met) : Type 0 where
   pub left : Left top w w'
-  pub is : (a : PlaceAsked T B w kind p end top) → Meets a.ground w' kind p end top a.rest r
+  pub is : (a : PlaceAsked T B w kind p end top) → Meets a.basis w' kind p end top a.rest r

@@ -60,33 +60,33 @@ module _ {T B w : List ℕ} {kind : Kind} {p end top : ℕ} where
   pub place-element : kind ≡ Kind.Elements → PlaceAsked T B w kind p end top → ElementAsked T B w p end top
   place-element e a = go a.rest (rw e at a.at)
     where
-      go : (r : Rest) → RestFrom a.ground w Kind.Elements p end top r → ElementAsked T B w p end top
-      go (elements es) s = record { ground = a.ground; sound = a.sound; work = a.work; es = es; at = s; inside = a.inside }
+      go : (r : Rest) → RestFrom a.basis w Kind.Elements p end top r → ElementAsked T B w p end top
+      go (elements es) s = record { basis = a.basis; sound = a.sound; work = a.work; es = es; at = s; inside = a.inside }
       go (keys os ks) s = absurd s
 
   pub place-elements : kind ≡ Kind.Elements → {w' : List ℕ} {r : Met} → ElementIs T B p end top w w' r → PlaceIs T B kind p end top w w' r
   place-elements e {w'} {r} N = subst (λ (k : Kind). PlaceIs T B k p end top w w' r) (sym e) (record { left = N.left; is = λ a. go a a.rest a.at })
     where
-      go : (a : PlaceAsked T B w Kind.Elements p end top) (q : Rest) → RestFrom a.ground w Kind.Elements p end top q → Meets a.ground w' Kind.Elements p end top q r
-      go a (elements es) s = N.is (record { ground = a.ground; sound = a.sound; work = a.work; es = es; at = s; inside = a.inside })
+      go : (a : PlaceAsked T B w Kind.Elements p end top) (q : Rest) → RestFrom a.basis w Kind.Elements p end top q → Meets a.basis w' Kind.Elements p end top q r
+      go a (elements es) s = N.is (record { basis = a.basis; sound = a.sound; work = a.work; es = es; at = s; inside = a.inside })
       go a (keys os ks) s = absurd s
 
   -- what is asked of an entry
   pub place-number : kind ≡ Kind.Keys → PlaceAsked T B w kind p end top → p < number_bound
   place-number e a = go a.rest (rw e at a.at)
     where
-      go : (r : Rest) → RestFrom a.ground w Kind.Keys p end top r → p < number_bound
+      go : (r : Rest) → RestFrom a.basis w Kind.Keys p end top r → p < number_bound
       go (elements es) s = absurd s
-      go (keys os ks) s = omega (arith, rest-low a.ground a.sound w p end top Kind.Keys (keys os ks) s, s.high)
+      go (keys os ks) s = omega (arith, rest-low a.basis a.sound w p end top Kind.Keys (keys os ks) s, s.high)
 
   module _ {l : ℕ} (e : kind ≡ Kind.Keys) (link : LinkIs w p l) where
     pub place-pass : l < p → PlaceIs T B kind p end top w w (record { need = Need.Nothing; next = p + 1 })
     place-pass h = subst (λ (k : Kind). PlaceIs T B k p end top w w (record { need = Need.Nothing; next = p + 1 })) (sym e)
-        (record { left = left-all; is = λ a. pass a.ground link h a.inside a.rest a.at })
+        (record { left = left-all; is = λ a. pass a.basis link h a.inside a.rest a.at })
 
-    abbrev asked : p ≤ l → (a : PlaceAsked T B w Kind.Keys p end top) {os : List Layer} {ks : List Text} → KeysFrom a.ground w p end top os ks → KeyAsked T B w p top
+    abbrev asked : p ≤ l → (a : PlaceAsked T B w Kind.Keys p end top) {os : List Layer} {ks : List Text} → KeysFrom a.basis w p end top os ks → KeyAsked T B w p top
     asked h a {os} {ks} s = record {
-      ground = a.ground;
+      basis = a.basis;
       sound = a.sound;
       work = a.work;
       os = os;
@@ -102,14 +102,14 @@ module _ {T B w : List ℕ} {kind : Kind} {p end top : ℕ} where
         go : PlaceAsked T B w Kind.Keys p end top → KeyAsked T B w p top
         go b = by b b.rest b.at
           where
-            by : (b : PlaceAsked T B w Kind.Keys p end top) (r : Rest) → RestFrom b.ground w Kind.Keys p end top r → KeyAsked T B w p top
+            by : (b : PlaceAsked T B w Kind.Keys p end top) (r : Rest) → RestFrom b.basis w Kind.Keys p end top r → KeyAsked T B w p top
             by b (elements es) s = absurd s
             by b (keys os ks) s = asked h b s
 
     pub place-keys : p ≤ l → {w' : List ℕ} {r : Met} → KeyIs T B p top w w' r → PlaceIs T B kind p end top w w' r
     place-keys h {w'} {r} N = subst (λ (k : Kind). PlaceIs T B k p end top w w' r) (sym e) (record { left = N.left; is = λ a. go a a.rest a.at })
       where
-        go : (a : PlaceAsked T B w Kind.Keys p end top) (q : Rest) → RestFrom a.ground w Kind.Keys p end top q → Meets a.ground w' Kind.Keys p end top q r
+        go : (a : PlaceAsked T B w Kind.Keys p end top) (q : Rest) → RestFrom a.basis w Kind.Keys p end top q → Meets a.basis w' Kind.Keys p end top q r
         go a (elements es) s = absurd s
         go a (keys os ks) s = rw s.ends (N.is (asked h a s))
 

@@ -240,7 +240,7 @@ module _ {T₀ B₀ E w₀ room₀ trail₀ text₀ : List ℕ} {s : Span} {p₀
     place-asked {y} a h =
         let x = here a in
         let g = now-given a y refl in
-        record { ground = ground_of g; sound = sound_of g; work = g.work; rest = x.rest; at = x.at; inside = h }
+        record { basis = ground_of g; sound = sound_of g; work = g.work; rest = x.rest; at = x.at; inside = h }
 
     pub all-place : {y : List ℕ} → AllAsked T₀ B₀ E w₀ y trail₀ text₀ s p₀ budget → i < s.end → PlaceAsked T B w s.kind i s.end s.top
     all-place a h = place-asked a h

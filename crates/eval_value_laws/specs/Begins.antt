@@ -58,8 +58,8 @@ pub members-given : {T : List ℕ} (B : List ℕ) (src : Source) (N : Names) {lo
     → MembersGiven (memory_of T B src N) known x hi top n d os
 members-given {T} B src N k m {known} g n h =
     record {
-      ground = g.ground;
-      shown = members-level (memory_of T B src N) g.ground.tables.stored known g.shown g.fits k m;
+      basis = g.basis;
+      shown = members-level (memory_of T B src N) g.basis.tables.stored known g.shown g.fits k m;
       fits = g.fits;
       low = omega (arith, g.low);
       deep = omega (arith, g.deep, g.some);

@@ -70,7 +70,7 @@ module _ (M : Memory) (known : ℕ → Option Answer) where
 
   -- a layer that the number c shows; there are so many levels for it, and the rules' depth d is enough
   pub record LayerGiven (top levels d c : ℕ) (l : Layer) : Type 0 where
-    pub ground : Ground M known
+    pub basis : Ground M known
     pub shown : Shows M c l
     pub fits : LayerFits top l
     pub low : layer_height l ≤ levels
@@ -78,14 +78,14 @@ module _ (M : Memory) (known : ℕ → Option Answer) where
 
   -- an element, which may be an unresolved value
   pub record ElementGiven (top levels d c : ℕ) (n : Node) : Type 0 where
-    pub ground : Ground M known
+    pub basis : Ground M known
     pub shown : WrittenAt M n c
     pub fits : top + 2 * weight_of known n ≤ entries
     pub low : height_of n + 32 ≤ levels
     pub deep : height_of n + 32 < d
 
   pub record ElementsGiven (top levels d i end : ℕ) (es : Elements) : Type 0 where
-    pub ground : Ground M known
+    pub basis : Ground M known
     pub shown : ElementsShown M i end es
     pub fits : top + 2 * weight_of_elements known es ≤ entries
     pub low : highest_element es + 32 ≤ levels
@@ -93,7 +93,7 @@ module _ (M : Memory) (known : ℕ → Option Answer) where
 
   -- objects that stand from lo to hi, with room above them
   pub record ObjectsGiven (w : List ℕ) (lo hi levels d : ℕ) (os : List Layer) : Type 0 where
-    pub ground : Ground M known
+    pub basis : Ground M known
     pub shown : ObjectsAt M os lo hi w
     pub fits : Roomy known entries hi os
     pub some : 1 ≤ height_in os
@@ -102,7 +102,7 @@ module _ (M : Memory) (known : ℕ → Option Answer) where
 
   -- the members of such objects
   pub record MembersGiven (w : List ℕ) (base top levels d : ℕ) (os : List Layer) : Type 0 where
-    pub ground : Ground M known
+    pub basis : Ground M known
     pub shown : Level M os base top w
     pub fits : Roomy known entries base os
     pub low : pred (height_in os) ≤ levels

@@ -45,7 +45,7 @@ pub record Fielding (T B : List ℕ) (src : Source) (base top : ℕ) (o : Out) (
 given_stays : {T B : List ℕ} {src : Source} (N : Names) {known : ℕ → Option Answer} {w₀ w : List ℕ} {base top levels d : ℕ} {os : List Layer} → Left top w₀ w
     → MembersGiven (memory_of T B src N) known w₀ base top levels d os → MembersGiven (memory_of T B src N) known w base top levels d os
 given_stays {T} {B} {src} N {w = w} f g =
-    record { ground = g.ground; shown = level-stays (memory_of T B src N) w f.below g.shown; fits = g.fits; low = g.low; deep = g.deep }
+    record { basis = g.basis; shown = level-stays (memory_of T B src N) w f.below g.shown; fits = g.fits; low = g.low; deep = g.deep }
 
 -- the members with one more, or the answer that is needed
 abbrev GrownBy : (ℕ → Text) → (ℕ → Type 0) → Given Members → Given Members → Out → List ℕ → List ℕ → Made → Type 0
@@ -69,7 +69,7 @@ module _ {T B : List ℕ} {src : Source} {base top levels : ℕ} {o : Out} {w₀
         within = record { out = q; deep = omega arith };
         few = omega arith;
         is = λ N known d os g.
-            rw (level-keys (memory_of T B src N) g.ground.tables.stored g.shown) (fields-begin q);
+            rw (level-keys (memory_of T B src N) g.basis.tables.stored g.shown) (fields-begin q);
       }
 
   module _ {p n : ℕ} {e : Extent} {w b : List ℕ} (I : Fielding T B src base top o levels w₀ b₀ p n e w b) where
@@ -147,7 +147,7 @@ module _ {T B : List ℕ} {src : Source} {base top levels : ℕ} {o : Out} {w₀
               let C = (v.is N known (pred d) G.counted G.given).is in
               rw (k.is, stays N known d os (p + 1))
               (grow y (counted_by known (pred d) G.counted) (members_from M known d os w (p + 1) top) G.is G.defined G.number
-              (g.ground.tables.stored.names F.key G.number) F.wrote S u C)
+              (g.basis.tables.stored.names F.key G.number) F.wrote S u C)
 
           pub fielding-stop : {q : ℕ} → m ≡ Made.Needs q → FieldsIs T B src base top o levels w₀ w' (Made.Needs q) b₀ y
           unfolding members_in

@@ -38,7 +38,7 @@ module _ (M : Memory) (known : ℕ → Option Answer) where
     unfolding weight_of height_of
     element-first s =
         record {
-          ground = g.ground;
+          basis = g.basis;
           shown = s;
           fits = omega (arith, g.fits);
           low = omega (arith, g.low);
@@ -49,7 +49,7 @@ module _ (M : Memory) (known : ℕ → Option Answer) where
     unfolding weight_of height_of
     elements-rest s =
         record {
-          ground = g.ground;
+          basis = g.basis;
           shown = s;
           fits = omega (arith, g.fits);
           low = omega (arith, g.low);
@@ -68,8 +68,8 @@ module _ (M : Memory) (known : ℕ → Option Answer) where
           → ElementAs top levels d (node_in known ev n) (answered_at M.table c)
       unfolding layer_in
       plain {c} n g s f e =
-          rw (layer-shown M g.ground.tables.stored c (written n) s)
-          (written n, refl, record { ground = g.ground; shown = s; fits = f; low = g.low; deep = e })
+          rw (layer-shown M g.basis.tables.stored c (written n) s)
+          (written n, refl, record { basis = g.basis; shown = s; fits = f; low = g.low; deep = e })
 
       answer-as : (b : ℕ) (o : Option Answer) (a : ℕ) → Ground M known → 32 ≤ levels → AnswerAt M o a
           → ElementAs top levels d (answered known b o) (model.answered b a)
@@ -82,7 +82,7 @@ module _ (M : Memory) (known : ℕ → Option Answer) where
           let e : model.answered b (o + 2) ≡ Answered.Layer (capacity + o) =
           rw (ne_eqb (o + 2) 0 (λ q. omega arith), ne_eqb (o + 2) 1 (λ q. omega arith), z) refl in
           rw (x.1, e)
-          (settled v, refl, record { ground = G; shown = (o, refl, x.2); fits = tt; low = omega (arith, x.2.nesting); deep = tt })
+          (settled v, refl, record { basis = G; shown = (o, refl, x.2); fits = tt; low = omega (arith, x.2.nesting); deep = tt })
 
       pub element-as : {c : ℕ} (n : Node) → ElementGiven M known top levels d c n → ElementAs top levels d (node_in known ev n) (answered_at M.table c)
       unfolding node_in height_of weight_of
@@ -90,9 +90,9 @@ module _ (M : Memory) (known : ℕ → Option Answer) where
       element-as (array es) g = plain (array es) g g.shown (omega (arith, g.fits)) (omega (arith, g.deep))
       element-as (object fs) g = plain (object fs) g g.shown (omega (arith, g.fits)) (omega (arith, g.deep))
       element-as (unresolved b ps) g =
-          let T = g.ground.tables in
+          let T = g.basis.tables in
           rw (unresolved-shown M known T ps g.shown)
-          (answer-as b (known b) (get_or M.table (answers_at + b) 0) g.ground (omega (arith, g.low)) (T.answers b g.shown.node.1.1))
+          (answer-as b (known b) (get_or M.table (answers_at + b) 0) g.basis (omega (arith, g.low)) (T.answers b g.shown.node.1.1))
 
   -- ---- an object by itself
 
@@ -104,7 +104,7 @@ module _ (M : Memory) (known : ℕ → Option Answer) where
       let l = written (object fs) in
       let n = objects-weigh known (l ∷ []) tt in
       record {
-        ground = g.ground;
+        basis = g.basis;
         shown = object-alone M l top w (omega (arith, g.fits)) (rw e g.shown) tt;
         fits = omega (arith, g.fits);
         some = omega arith;
@@ -127,7 +127,7 @@ module _ (M : Memory) (known : ℕ → Option Answer) where
     below-low : height_in below.0 ≤ pred (height_in os)
     unfolding deeper_in
     below-low =
-        rw (objects-stand known os g.shown.objects) (deeper-low known g.ground.shallow (height_in os) k os no (omega arith))
+        rw (objects-stand known os g.shown.objects) (deeper-low known g.basis.shallow (height_in os) k os no (omega arith))
 
     pub one-given : {c : ℕ} (w' : List ℕ) (l : Layer) → gather_of known below [] ≡ value (one l) → Shows M c l → LayerGiven M known top levels (pred d) c l
     unfolding gather_in
@@ -137,7 +137,7 @@ module _ (M : Memory) (known : ℕ → Option Answer) where
         let q = g.deep in
         let x = one-low known levels below.0 below.1 [] l (omega arith) e in
         let y = one-low known (pred d) below.0 below.1 [] l (omega arith) e in
-        record { ground = g.ground; shown = s; fits = fits l e y.2; low = x.0; deep = y.1 }
+        record { basis = g.basis; shown = s; fits = fits l e y.2; low = x.0; deep = y.1 }
       where
         fits : (l : Layer) → gather_of known below [] ≡ value (one l) → NoObject l → LayerFits M known top l
         fits (written (simple x)) e n = tt
@@ -147,7 +147,7 @@ module _ (M : Memory) (known : ℕ → Option Answer) where
         fits (written (unresolved b ps)) e n = absurd n
         fits (settled v) e n = tt
 
-    pub merged-given : {hi : ℕ} (w' : List ℕ) (os' : List Layer) → gather_of known below [] ≡ value (merged os') → Merging M known g.ground.tables top w' hi os'
+    pub merged-given : {hi : ℕ} (w' : List ℕ) (os' : List Layer) → gather_of known below [] ≡ value (merged os') → Merging M known g.basis.tables top w' hi os'
         → ObjectsGiven M known w' top hi levels (pred d) os'
     unfolding gather_in
     merged-given w' os' e m =
@@ -156,7 +156,7 @@ module _ (M : Memory) (known : ℕ → Option Answer) where
         let q = g.deep in
         let x = merged-low known below.0 below.1 os' e in
         record {
-          ground = g.ground;
+          basis = g.basis;
           shown = m.0;
           fits = m.1;
           some = merged-high known below.0 below.1 os' e m.0.objects;

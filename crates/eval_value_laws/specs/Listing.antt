@@ -118,7 +118,7 @@ module _ {T B : List ℕ} {src : Source} {top c levels : ℕ} {o : Out} {w₀ b�
       -- what is met
       met : (N : Names) (known : ℕ → Option Answer) (d : ℕ) (ns : Elements) → ElementsGiven (memory_of T B src N) known top levels d at end ns
           → ElementStep (memory_of T B src N) end ns v
-      met N known d ns g = rw m.is (element-met (memory_of T B src N) g.ground.tables.stored at end ns g.shown)
+      met N known d ns g = rw m.is (element-met (memory_of T B src N) g.basis.tables.stored at end ns g.shown)
 
       pub listing-end : v ≡ Member.End → ElementsIs T B src top c o levels w₀ w (Made.Done n e) b₀ b
       unfolding elements_in
@@ -147,7 +147,7 @@ module _ {T B : List ℕ} {src : Source} {top c levels : ℕ} {o : Out} {w₀ b�
                 let x = I.is N known d es g in
                 let s : ElementsShown M q end x.0 = rw z at (met N known d x.0 x.1) in
                 let y = x.1 in
-                (x.0, record { ground = y.ground; shown = s; fits = y.fits; low = y.low; deep = y.deep }, x.2);
+                (x.0, record { basis = y.basis; shown = s; fits = y.fits; low = y.low; deep = y.deep }, x.2);
           }
 
       module _ {i q : ℕ} (z : v ≡ Member.At i q) where

@@ -75,13 +75,13 @@ module _ {T w : List ℕ} {top levels : ℕ} {taken : Taken} where
       where
         go : (B : List ℕ) (src : Source) (N : Names) (known : ℕ → Option Answer) (d : ℕ) (l : Layer) (G : LayerGiven (memory_of T B src N) known top levels d c l)
             → Shows (memory_of T B src N) c l → OriginBy (memory_of T B src N) known w top levels d (layer_in known (value_in known d) l) (Origin.Finished (c - capacity))
-        go B src N known d (written (simple x)) g s = let q = item-low (memory_of T B src N) g.ground.tables.stored s in absurd (omega arith)
-        go B src N known d (written (array es)) g s = let q = item-low (memory_of T B src N) g.ground.tables.stored s in absurd (omega arith)
-        go B src N known d (written (object fs)) g s = let q = item-low (memory_of T B src N) g.ground.tables.stored s in absurd (omega arith)
+        go B src N known d (written (simple x)) g s = let q = item-low (memory_of T B src N) g.basis.tables.stored s in absurd (omega arith)
+        go B src N known d (written (array es)) g s = let q = item-low (memory_of T B src N) g.basis.tables.stored s in absurd (omega arith)
+        go B src N known d (written (object fs)) g s = let q = item-low (memory_of T B src N) g.basis.tables.stored s in absurd (omega arith)
         go B src N known d (written (unresolved n ps)) g s = absurd s
         go B src N known d (settled v) g (off, z, s) =
             let q : off ≡ c - capacity = omega arith in
-            (v, refl, g.ground.tables.stored, subst (SettledAt (memory_of T B src N) v) q s)
+            (v, refl, g.basis.tables.stored, subst (SettledAt (memory_of T B src N) v) q s)
 
     module _ {k : ℕ} (low : c < capacity) (read : ReadIs T (8 * c) k) where
       pub origin-simple : k % 16 ≤ 5 → OriginIs T w top taken levels (Origin.Simple c)
@@ -93,7 +93,7 @@ module _ {T w : List ℕ} {top levels : ℕ} {taken : Taken} where
           go B src N known d (written (simple x)) g s = (
             x,
             refl,
-            holds-simple T B N.ends s.role c (Number (memory_of T B src N)) x s.roles g.ground.tables.stored.document s.node,
+            holds-simple T B N.ends s.role c (Number (memory_of T B src N)) x s.roles g.basis.tables.stored.document s.node,
           )
           go B src N known d (written (array es)) g s = absurd (omega (arith, kind-is c 6 read s.roles s.node.0 (omega arith)))
           go B src N known d (written (object fs)) g s = absurd (omega (arith, kind-is c 7 read s.roles s.node.0 (omega arith)))
@@ -126,7 +126,7 @@ module _ {T w : List ℕ} {top levels : ℕ} {taken : Taken} where
                 es,
                 refl,
                 record {
-                  ground = g.ground;
+                  basis = g.basis;
                   shown = record { upto = s.inside; at = s.node.1 };
                   fits = g.fits;
                   low = omega (arith, g.low);
@@ -191,13 +191,13 @@ module _ {T w : List ℕ} {top levels : ℕ} {taken : Taken} where
 
             by : (l : Layer) → ObjectsGiven (memory_of T B src N) known w top hi levels d (l ∷ []) → Shows (memory_of T B src N) (code_at w (top + 0)) l
                 → OriginBy (memory_of T B src N) known w top levels d (merged_by known d (l ∷ [])) (Origin.Finished (c - capacity))
-            by (written (simple x)) g s = let q = item-low (memory_of T B src N) g.ground.tables.stored s in absurd (omega (arith, at))
-            by (written (array es)) g s = let q = item-low (memory_of T B src N) g.ground.tables.stored s in absurd (omega (arith, at))
-            by (written (object fs)) g s = let q = item-low (memory_of T B src N) g.ground.tables.stored s in absurd (omega (arith, at))
+            by (written (simple x)) g s = let q = item-low (memory_of T B src N) g.basis.tables.stored s in absurd (omega (arith, at))
+            by (written (array es)) g s = let q = item-low (memory_of T B src N) g.basis.tables.stored s in absurd (omega (arith, at))
+            by (written (object fs)) g s = let q = item-low (memory_of T B src N) g.basis.tables.stored s in absurd (omega (arith, at))
             by (written (unresolved n ps)) g s = absurd s
             by (settled v) g (off, z, s) =
                 let q : off ≡ c - capacity = omega (arith, at) in
-                (v, alone known d v g.shown.objects s.distinct (omega (arith, g.deep)), g.ground.tables.stored, subst (SettledAt (memory_of T B src N) v) q s)
+                (v, alone known d v g.shown.objects s.distinct (omega (arith, g.deep)), g.basis.tables.stored, subst (SettledAt (memory_of T B src N) v) q s)
 
     pub merged-cut : levels ≡ 0 → OriginIs T w top taken levels Origin.Nothing
     merged-cut z = by-objects Origin.Nothing tt (λ B src N known d os g. absurd (omega (arith, g.some, g.low)))

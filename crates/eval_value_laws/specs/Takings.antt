@@ -120,11 +120,11 @@ module _ {T : List ℕ} (B : List ℕ) (src : Source) {p top j : ℕ} {w x : Lis
     rest = members_from (memory_of T B src N) known d os w (p + 1) top
 
     -- what the key's layers come to
-    shown : TakenAs (memory_of T B src N) (Merging (memory_of T B src N) known g.ground.tables top x) (gather_of known layers []) tk
+    shown : TakenAs (memory_of T B src N) (Merging (memory_of T B src N) known g.basis.tables top x) (gather_of known layers []) tk
     unfolding gather_in deeper_in
     shown =
-        taken_as (memory_of T B src N) (Merging (memory_of T B src N) known g.ground.tables top x) tk (gather_of known layers [])
-        (take-shows (memory_of T B src N) known g.ground.tables g.shown g.fits l below (omega (arith, link.is)) t)
+        taken_as (memory_of T B src N) (Merging (memory_of T B src N) known g.basis.tables top x) tk (gather_of known layers [])
+        (take-shows (memory_of T B src N) known g.basis.tables g.shown g.fits l below (omega (arith, link.is)) t)
 
     -- its value, and the members behind it
     by-counted : (c : Given Counted) → gather_of known layers [] ≡ c
@@ -200,7 +200,7 @@ module _ {T : List ℕ} (B : List ℕ) (src : Source) {p top j : ℕ} {w x : Lis
     field-one {c} z h =
         keyed (Taken.One c) tt h (λ N known levels d base os g l.
         let M = memory_of T B src N in
-        let s : TakenAs M (Merging M known g.ground.tables top x) (gather_of known (layers N known levels d base os g l) []) (Taken.One c) =
+        let s : TakenAs M (Merging M known g.basis.tables top x) (gather_of known (layers N known levels d base os g l) []) (Taken.One c) =
         rw z at (shown N known levels d base os g l) in
         let G = one-given M known g (N.key (number N known levels d base os g l)) x s.0 s.1 s.2 in
         (value (one s.0), s.1, (s.0, refl, G), layer-defined M known top levels (pred d) c s.0 G))
@@ -210,7 +210,7 @@ module _ {T : List ℕ} (B : List ℕ) (src : Source) {p top j : ℕ} {w x : Lis
     field-merged {hi} z h =
         keyed (Taken.Merged hi) (taken-low t z, taken-high t z) h (λ N known levels d base os g l.
         let M = memory_of T B src N in
-        let s : TakenAs M (Merging M known g.ground.tables top x) (gather_of known (layers N known levels d base os g l) []) (Taken.Merged hi) =
+        let s : TakenAs M (Merging M known g.basis.tables top x) (gather_of known (layers N known levels d base os g l) []) (Taken.Merged hi) =
         rw z at (shown N known levels d base os g l) in
         let G = merged-given M known g (N.key (number N known levels d base os g l)) x s.0 s.1 s.2 in
         (value (merged s.0), s.1, (s.0, refl, G), merged-defined known (pred d) s.0))

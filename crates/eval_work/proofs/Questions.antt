@@ -208,7 +208,7 @@ module _ {T₀ B₀ E w₀ room₀ trail₀ text₀ : List ℕ} {base b : ℕ} {
         relisted =
             let i : pieces_at + (m - 1) ≡ pieces_at + length bs = omega (arith, opened.long) in
             let f : L' ≡ set L (pieces_at + length bs) O.piece = O.list ∙ ap (λ (j : ℕ). set L j O.piece) i in
-            rw f (
+            subst (λ (l : List ℕ). Listed a.t.setting T₀ l ((q, here) ∷ bs)) (sym f) (
               get_or-set_other L (pieces_at + length bs) (length bs) O.piece 0 (λ e. omega (arith, few)) ∙ listed.0,
               record {
                 u = u;

@@ -39,7 +39,7 @@ use Rattle.eval_question_laws.specs.Work.{WorkAsked}
 -- ---- a position among the pieces, in a table with the same document
 
 module _ {T T' : List ℕ} (same : (j : ℕ) → j < answers_at → get_or T' j 0 ≡ get_or T j 0) where
-  behind-same : {first i : ℕ} {all ps : Pieces} → i ≤ capacity → Behind T first all i ps → Behind T' first all i ps
+  behind-same : {first : ℕ} {all : Pieces} {i : ℕ} {ps : Pieces} → i ≤ capacity → Behind T first all i ps → Behind T' first all i ps
   behind-same l Behind.none = Behind.none
   behind-same {first} {all = all} l (Behind.node {i = i} {ps = ps} h) =
       subst (λ (k : ℕ). Behind T' first all (i + k) ps) (same (8 * i + 1) (omega arith)) (Behind.node (behind-same (omega arith) h))

@@ -70,11 +70,11 @@ module _ {T B : List ℕ} {base : ℕ} {w w' : List ℕ} {r : Worked} {b a : Lis
       let M = answers_of key items T B in
       let N : Names = record { key = key; items = items + 1; ends = text_room; answered = max_unresolved; filled = max_room; filled-text = max_room } in
       rw (object-value M known 66 fs (omega arith)) at
-      (f.is N known 66 (written (object fs)) (record { ground = G; shown = s; fits = omega arith; low = omega arith; deep = omega arith })).is
+      (f.is N known 66 (written (object fs)) (record { basis = G; shown = s; fits = omega arith; low = omega arith; deep = omega arith })).is
   by-root key items known (elements es) G s h room =
       let N : Names = record { key = key; items = items + 1; ends = text_room; answered = max_unresolved; filled = max_room; filled-text = max_room } in
       subst (λ (g : Given Answer). ComesBy key (KeyNumber T (items + 1)) g start b a r) (go (elements_in known (value_in known 65) es))
-      (f.is N known 65 (written (array es)) (record { ground = G; shown = s; fits = omega arith; low = omega arith; deep = omega arith })).is
+      (f.is N known 65 (written (array es)) (record { basis = G; shown = s; fits = omega arith; low = omega arith; deep = omega arith })).is
     where
       go : (g : Given Values) → then g (λ vs. value (some (array_of vs))) ≡ then (then g (λ vs. value (array_of vs))) (λ v. value (some v))
       go (value vs) = refl

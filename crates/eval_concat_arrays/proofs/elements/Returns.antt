@@ -98,12 +98,12 @@ module _ {T B : List ℕ} {top c : ℕ} {o : Out} {w : List ℕ} {r : Made} {b :
   array-finished {a} l f = record {
     left = record { below = λ i u v. refl; len = refl };
     within = f.within;
-    literal = λ key items known d es g. absurd (omega (arith, item-low (answers_of key items T B) g.ground.tables.stored g.shown));
+    literal = λ key items known d es g. absurd (omega (arith, item-low (answers_of key items T B) g.basis.tables.stored g.shown));
     finished = λ key items known d vs g.
         let M = answers_of key items T B in
         let (off, e, s) = g.shown in
         let z : off ≡ c - capacity = omega arith in
-        array-stands items (subst (λ (n : ℕ). FinishedIs T B n o r b a) (sym z) f) s (settled-keys M g.ground.tables.stored s);
+        array-stands items (subst (λ (n : ℕ). FinishedIs T B n o r b a) (sym z) f) s (settled-keys M g.basis.tables.stored s);
   }
 
   pub array-literal : {w' a : List ℕ} → c < capacity → ElementsIs T B answers top c o 65 w w' r b a → ArrayIs T B top c o w w' r b a
@@ -113,7 +113,7 @@ module _ {T B : List ℕ} {top c : ℕ} {o : Out} {w : List ℕ} {r : Made} {b :
     within = f.within;
     literal = λ key items known d es g.
         f.is (record { key = key; items = items + 1; ends = text_room; answered = max_unresolved; filled = max_room; filled-text = max_room }) known d es (record {
-          ground = g.ground;
+          basis = g.basis;
           shown = record { upto = g.shown.inside; at = g.shown.node.1 };
           fits = g.fits;
           low = omega (arith, g.low);

@@ -36,8 +36,8 @@ module _ {key : ℕ → Text} {items : ℕ} {T B : List ℕ} {base : ℕ} {upper
       let m = G.first.nesting in
       merged-by-layers unknown 65 upper lower G.second.distinct G.first.distinct (omega arith) (omega arith)
 
-  ground : Ground (pair_of key items T B) unknown
-  ground = record {
+  basis : Ground (pair_of key items T B) unknown
+  basis = record {
     tables = record { stored = G.stored; answers = λ b l. absurd (omega arith) };
     shallow = λ b v e. absurd (unasked e);
   }
@@ -85,7 +85,7 @@ module _ {key : ℕ → Text} {items : ℕ} {T B : List ℕ} {base : ℕ} {upper
     pub pair-given : ObjectsGiven (pair_of key items T B) unknown w₂ base two (suc 65) 64 layers
     unfolding nesting_of
     pair-given = record {
-      ground = ground;
+      basis = basis;
       shown = shown;
       fits = omega (arith, objects-weigh unknown layers (G.second.distinct, (G.first.distinct, tt)), second-top, value-light (object_of upper), value-light (object_of lower), G.lower-few, G.upper-few, G.fits);
       some = omega arith;

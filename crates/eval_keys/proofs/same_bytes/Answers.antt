@@ -5,7 +5,7 @@ pub loop-i-init : goal.loop-i-init
 loop-i-init c = search sames
 
 pub loop-i-preserved : goal.loop-i-preserved
-loop-i-preserved c =     same-again c.loop-i.invariant c.loop-i-test.true c.text_byte.ensures
+loop-i-preserved c = same-again c.loop-i.invariant c.loop-i-test.true c.text_byte.ensures
     c.text_byte-in-loop-i.ensures c.if-text_byte.true
 
 pub returns-else-text_byte : goal.returns-else-text_byte

@@ -33,12 +33,12 @@ use Rattle.eval_outcomes.specs.Newest.Contracts.{GoesAt, Goes, begins, further, 
 
 -- ---- pieces behind others
 
-behind_more : {T : List ℕ} {first i : ℕ} {all ps : Pieces} → Behind T first all i ps → first ≤ i
+behind_more : {T : List ℕ} {first : ℕ} {all : Pieces} {i : ℕ} {ps : Pieces} → Behind T first all i ps → first ≤ i
 behind_more Behind.none = omega arith
 behind_more (Behind.node h) = omega (arith, behind_more h)
 behind_more (Behind.reference h) = omega (arith, behind_more h)
 
-behind-low : {T : List ℕ} {first i : ℕ} {all ps : Pieces} → Behind T first all i ps → highest_piece ps ≤ highest_piece all
+behind-low : {T : List ℕ} {first : ℕ} {all : Pieces} {i : ℕ} {ps : Pieces} → Behind T first all i ps → highest_piece ps ≤ highest_piece all
 unfolding height_of
 behind-low Behind.none = omega arith
 behind-low (Behind.node h) = let l = behind-low h in omega arith

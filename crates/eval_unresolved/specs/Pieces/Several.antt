@@ -49,7 +49,7 @@ several-first x known u (substituted gap y ps) J =
     sym (then-then (substitution_in known x.document.root 65 x.environment (open_in known u.openness) y)
     (λ v. join_piece_in y.place gap v J) (λ k. several_by x known u ps k))
 
-behind-low : {T : List ℕ} {first i : ℕ} {all ps : Pieces} → Behind T first all i ps → highest_piece ps ≤ highest_piece all
+behind-low : {T : List ℕ} {first : ℕ} {all : Pieces} {i : ℕ} {ps : Pieces} → Behind T first all i ps → highest_piece ps ≤ highest_piece all
 unfolding height_of
 behind-low none = omega arith
 behind-low (node h) = let l = behind-low h in omega arith

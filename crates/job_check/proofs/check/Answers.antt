@@ -3,7 +3,7 @@ use borrow.Author.Rules.{rules}
 use Rattle.job_check.proofs.check.Goals as goal
 
 pub check_sheet-requires : goal.check_sheet-requires
-check_sheet-requires c =     sheet-asked c.parts_fit-fit.ensures c.read_task.ensures c.in-Done.is _ _ (search rules) (search rules) (search rules) (search rules) (search rules)
+check_sheet-requires c = sheet-asked c.parts_fit-fit.ensures c.read_task.ensures c.in-Done.is _ _ (search rules) (search rules) (search rules) (search rules) (search rules)
 
 pub returns-in-Refused : goal.returns-in-Refused
 returns-in-Refused c = search checks

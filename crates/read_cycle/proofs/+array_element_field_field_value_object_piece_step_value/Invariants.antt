@@ -38,13 +38,13 @@ abbrev pub decreases-array-loop-next : goal.decreases-array-loop-next
 decreases-array-loop-next l = length l.s - l.at.at.0
 
 abbrev pub invariant-object-loop-next : goal.invariant-object-loop-next
-invariant-object-loop-next l =     Inv (object_like l.closing) l.s l.start l.left l.items l.initial.table l.initial.text l.at.at.0 l.n l.table l.text
+invariant-object-loop-next l = Inv (object_like l.closing) l.s l.start l.left l.items l.initial.table l.initial.text l.at.at.0 l.n l.table l.text
 
 abbrev pub decreases-object-loop-next : goal.decreases-object-loop-next
 decreases-object-loop-next l = length l.s - l.at.at.0
 
 abbrev pub invariant-value-loop-number : goal.invariant-value-loop-number
-invariant-value-loop-number l =     ValueInv l.s l.initial.at.at.0 l.left l.items l.initial.table l.initial.text l.at.at.0 l.from.0 l.n l.used l.run l.table l.text
+invariant-value-loop-number l = ValueInv l.s l.initial.at.at.0 l.left l.items l.initial.table l.initial.text l.at.at.0 l.from.0 l.n l.used l.run l.table l.text
 
 abbrev pub decreases-value-loop-number : goal.decreases-value-loop-number
 decreases-value-loop-number l = length l.s - l.at.at.0
