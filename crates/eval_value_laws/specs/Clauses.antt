@@ -117,7 +117,7 @@ pub record NodeIs (T B : List ℕ) (src : Source) (top c : ℕ) (o : Out) (level
       → ValueComes (memory_of T B src N) (layer_in known (value_in known d) l) o r b a
 
 -- the value of merged objects
-abbrev pub merged_by : (ℕ → Option Answer) → ℕ → List Layer → Given Answer
+unfoldable abbrev pub merged_by : (ℕ → Option Answer) → ℕ → List Layer → Given Answer
 unfolding merged_in
 merged_by known d os = then (merged_in known (value_in known d) os) (λ v. value (some v))
 
@@ -145,7 +145,7 @@ pub record TakenGiven (M : Memory) (known : ℕ → Option Answer) (w : List ℕ
   pub is : TakenGivenBy M known w top levels d g taken
 
 -- the value of what layers come to
-abbrev pub counted_by : (ℕ → Option Answer) → ℕ → Given Counted → Given Answer
+unfoldable abbrev pub counted_by : (ℕ → Option Answer) → ℕ → Given Counted → Given Answer
 unfolding counted_in
 counted_by known d g = then g (λ c. counted_in known (value_in known d) c)
 
@@ -228,7 +228,7 @@ pub record BegunIs (T B : List ℕ) (src : Source) (top : ℕ) (taken : Taken) (
 -- ---- what is met among the members of objects
 
 -- the members with the keys from p on
-abbrev pub members_from : Memory → (ℕ → Option Answer) → ℕ → List Layer → List ℕ → ℕ → ℕ → Given Members
+unfoldable abbrev pub members_from : Memory → (ℕ → Option Answer) → ℕ → List Layer → List ℕ → ℕ → ℕ → Given Members
 unfolding members_in
 members_from M known d os w p top = members_in known (value_in known d) (push_all known os) (keys_from M w p top)
 
