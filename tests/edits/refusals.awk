@@ -44,7 +44,7 @@ function told(    file, name, rest, i) {
 }
 function why(s, file, name) {
     if (s ~ /(was|is) not admitted|which was rejected/) return "follows"
-    if (file !~ /\/(Answers|Invariants|Proof)\.antt$/) return unlike(s) ? "unlike" : "form"
+    if (file !~ /^proofs\/.+\/(Answers|Invariants|Proof)\.antt$/) return unlike(s) ? "unlike" : "form"
     return s ~ /^`(search|grind|omega|cc)`: (no proof of `|the goal )/ ? of_goal(name) : "form"
 }
 # The goals of a cycle of functions begin with the function's name.
