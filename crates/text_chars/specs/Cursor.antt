@@ -7,6 +7,7 @@ use Rattle.rules.specs.Positions.{line_at, column_at, line_behind, column_behind
 use Rattle.theory_text.specs.Positions.{Reached}
 use Rattle.text_chars.specs.declared.DocAt.{DocAt}
 use Rattle.text_chars.specs.declared.Cursor.{Cursor}
+use Rattle.text_chars.specs.declared.Refusal.{Refusal}
 use Rattle.text_chars.specs.declared.Step.{Step}
 use Rattle.text_chars.specs.declared.Ill.{Ill}
 
@@ -16,6 +17,10 @@ doc at = record { 0 = at }
 -- the cursor at a place
 abbrev pub cur : ℕ → Cursor
 cur at = record { at = doc at }
+
+-- a refusal by its number and its place
+abbrev pub refusal : ℕ → DocAt → Refusal
+refusal number place = record { number = number; place = place }
 
 -- the byte at a place, and that inside the text it is one
 pub record ByteIs (s : List ℕ) (at r : ℕ) : Type 0 where

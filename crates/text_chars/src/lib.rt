@@ -17,6 +17,13 @@ use codes::bytes;
 #[derive(Clone, Copy)]
 pub struct DocAt(pub usize);
 
+/// A refusal: its number, and its place, 0 where it has none.
+#[derive(Clone, Copy)]
+pub struct Refusal {
+    pub number: u8,
+    pub place: DocAt,
+}
+
 /// An offset in records.
 #[derive(Clone, Copy)]
 pub struct RecAt(pub usize);
