@@ -2,6 +2,7 @@
 use mathlib.Core.Path.{◌≡◌, refl, sym, ap}
 use mathlib.Core.List.{List}
 use mathlib.Core.Option.{none, some}
+use Rattle.std.specs.Prelude.{Some, None, Ok, Err}
 use Prim.Native.Nat.{ℕ, ◌+◌, ◌≤◌, ◌<◌}
 use native.Mathlib.Omega.{arith}
 use lib.ListN.{length}
@@ -9,31 +10,29 @@ use borrow.Author.Tests.{le-leb, lt-leb, ne_eqb}
 use Rattle.rules.specs.Bytes.{byte_at}
 use Rattle.rules.specs.Refusals.{ok}
 use Rattle.rules.specs.Strings.{expect, letter_escape}
-use Rattle.text_chars.specs.Cursor.{doc, StepIs}
+use Rattle.text_chars.specs.Cursor.{doc, refusal, StepIs}
 use Rattle.text_chars.specs.Seen.{Seen, seen, at-end, seen-eq, seen-ne, same_seen}
 use Rattle.text_chars.specs.declared.DocAt.{DocAt}
 use Rattle.text_chars.specs.declared.Cursor.{Cursor}
 use Rattle.text_chars.specs.declared.Step.{Step}
 use Rattle.text_escapes.specs.Clauses.{LetterIs, ExpectIs}
-use Rattle.text_escapes.specs.declared.Expected.{Expected}
-use Rattle.text_escapes.specs.declared.Letter.{Letter}
 
 -- ---- one certain character
 
 module _ {s : List ℕ} {at b : ℕ} {r : Step} (h : StepIs s at r) where
-  pub expect-end : {first : ℕ} → r ≡ Step.End → ExpectIs b s first at (Expected.Refused 4 (doc (length s)))
+  pub expect-end : {first : ℕ} → r ≡ Step.End → ExpectIs b s first at (Err (refusal 4 (doc (length s))))
   unfolding expect
   expect-end e = record { is = rw (le-leb (length s) at (at-end h e), expect); far = tt }
 
   module _ {ch : ℕ} {c : Cursor} (l : b < 128) (e : r ≡ Step.Char ch c) where
-    pub expect-found : {first : ℕ} → ch ≡ b → ExpectIs b s first at (Expected.Found c)
+    pub expect-found : {first : ℕ} → ch ≡ b → ExpectIs b s first at (Ok c)
     unfolding expect
     expect-found i =
         let z = seen h e in
         let o : c.at.0 ≡ at + 1 = z.one (omega arith) in
         record { is = rw (lt-leb (length s) at z.within, seen-eq z b l i, expect) (ap (ok b) (sym o)); far = (o, z.inside) }
 
-    pub expect-other : {first : DocAt} → (ch ≡ b → ⊥) → ExpectIs b s first.0 at (Expected.Refused 5 first)
+    pub expect-other : {first : DocAt} → (ch ≡ b → ⊥) → ExpectIs b s first.0 at (Err (refusal 5 first))
     unfolding expect
     expect-other n = let z = seen h e in record { is = rw (lt-leb (length s) at z.within, seen-ne z b l n, expect); far = tt }
 
@@ -48,7 +47,7 @@ unfolding letter_escape
 letter-table = (refl, refl, refl, refl, refl, refl, refl, refl)
 
 module _ {ch : ℕ} where
-  pub letter-is : {v b : ℕ} → ch ≡ v → letter_escape v ≡ some b → LetterIs ch (Letter.Byte b)
+  pub letter-is : {v b : ℕ} → ch ≡ v → letter_escape v ≡ some b → LetterIs ch (Some b)
   letter-is e f = record { is = rw (e, f) }
 
   pub no-letter : (ch ≡ 34 → ⊥) → (ch ≡ 92 → ⊥) → (ch ≡ 47 → ⊥) → (ch ≡ 98 → ⊥) → (ch ≡ 102 → ⊥) → (ch ≡ 110 → ⊥) → (ch ≡ 114 → ⊥) → (ch ≡ 116 → ⊥)
@@ -68,7 +67,7 @@ module _ {ch : ℕ} where
       )
 
   pub letter-other : (ch ≡ 34 → ⊥) → (ch ≡ 92 → ⊥) → (ch ≡ 47 → ⊥) → (ch ≡ 98 → ⊥) → (ch ≡ 102 → ⊥) → (ch ≡ 110 → ⊥) → (ch ≡ 114 → ⊥) → (ch ≡ 116 → ⊥)
-      → LetterIs ch Letter.Not
+      → LetterIs ch None
   letter-other a b c d e f g h = record { is = rw (no-letter a b c d e f g h) }
 
 pub past-letters : (ch : ℕ) → 128 ≤ ch → letter_escape ch ≡ none

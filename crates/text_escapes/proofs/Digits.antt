@@ -3,6 +3,8 @@ use mathlib.Core.Path.{◌≡◌, refl, sym, ap, ◌∙◌}
 use mathlib.Core.Bool.{Bool, true, false}
 use mathlib.Core.List.{List}
 use mathlib.Core.Option.{Option, none, some}
+use Rattle.std.specs.Prelude.{Some, None, Ok, Err}
+use Rattle.std.specs.Prelude.{Option as Maybe}
 use Prim.Native.Nat.{ℕ, suc, ◌+◌, ◌-◌, ◌*◌, ◌^◌, ◌≤◌, ◌<◌, max}
 use native.Mathlib.Nat.{le_refl, le_trans, pow-succ', mul_assoc, mul-le-mul_left, mul-le-mul_right, pow-le-pow_right}
 use native.Mathlib.Omega.{arith}
@@ -14,44 +16,42 @@ use borrow.Author.Tests.{le-leb, lt-leb, ltb-true, ltb-false}
 use Rattle.rules.specs.Bytes.{byte_at}
 use Rattle.rules.specs.Refusals.{placed, refused}
 use Rattle.rules.specs.Strings.{hex_digit, hex_from, is_high, is_low}
-use Rattle.text_chars.specs.Cursor.{doc, StepIs}
+use Rattle.text_chars.specs.Cursor.{doc, refusal, StepIs}
 use Rattle.text_chars.specs.Seen.{Seen, seen, at-end, same_seen}
 use Rattle.text_chars.specs.Clash.{clash}
 use Rattle.text_chars.specs.declared.DocAt.{DocAt}
 use Rattle.text_chars.specs.declared.Cursor.{Cursor}
 use Rattle.text_chars.specs.declared.Step.{Step}
-use Rattle.text_escapes.specs.Units.{hex_of, HexIs, UnitIs}
+use Rattle.text_escapes.specs.Units.{maybe, HexIs, code_unit, UnitIs}
 use Rattle.text_escapes.specs.Ranges.{in-range, below-range, above-range}
-use Rattle.text_escapes.specs.declared.units.Hex.{Hex}
-use Rattle.text_escapes.specs.declared.units.Unit.{Unit as CodeUnit}
 
 -- ---- the value of a digit
 
 module _ {ch : ℕ} where
-  pub hex-none : hex_digit ch ≡ none → HexIs ch Hex.Not
+  pub hex-none : hex_digit ch ≡ none → HexIs ch None
   hex-none e = record { is = rw e; small = tt }
 
-  pub hex-below : ch < 48 → HexIs ch Hex.Not
+  pub hex-below : ch < 48 → HexIs ch None
   unfolding hex_digit
   hex-below h = hex-none (rw (below-range 48 57 ch h, below-range 65 70 ch (omega arith), below-range 97 102 ch (omega arith), hex_digit))
 
-  pub hex-decimal : 48 ≤ ch → ch ≤ 57 → HexIs ch (Hex.Digit (ch - 48))
+  pub hex-decimal : 48 ≤ ch → ch ≤ 57 → HexIs ch (Some (ch - 48))
   unfolding hex_digit
   hex-decimal h k = record { is = rw (in-range 48 57 ch h k, hex_digit); small = omega arith }
 
-  pub hex-between : 57 < ch → ch < 65 → HexIs ch Hex.Not
+  pub hex-between : 57 < ch → ch < 65 → HexIs ch None
   unfolding hex_digit
   hex-between h k = hex-none (rw (above-range 48 57 ch h, below-range 65 70 ch k, below-range 97 102 ch (omega arith), hex_digit))
 
-  pub hex-capital : 65 ≤ ch → ch ≤ 70 → HexIs ch (Hex.Digit (ch - 55))
+  pub hex-capital : 65 ≤ ch → ch ≤ 70 → HexIs ch (Some (ch - 55))
   unfolding hex_digit
   hex-capital h k = record { is = rw (above-range 48 57 ch (omega arith), in-range 65 70 ch h k, hex_digit); small = omega arith }
 
-  pub hex-before : 70 < ch → ch < 97 → HexIs ch Hex.Not
+  pub hex-before : 70 < ch → ch < 97 → HexIs ch None
   unfolding hex_digit
   hex-before h k = hex-none (rw (above-range 48 57 ch (omega arith), above-range 65 70 ch h, below-range 97 102 ch k, hex_digit))
 
-  pub hex-small : 97 ≤ ch → ch ≤ 102 → HexIs ch (Hex.Digit (ch - 87))
+  pub hex-small : 97 ≤ ch → ch ≤ 102 → HexIs ch (Some (ch - 87))
   unfolding hex_digit
   hex-small h k = record {
     is = rw (above-range 48 57 ch (omega arith), above-range 65 70 ch (omega arith), in-range 97 102 ch h k, hex_digit);
@@ -62,7 +62,7 @@ module _ {ch : ℕ} where
   unfolding hex_digit
   past-digits h = rw (above-range 48 57 ch (omega arith), above-range 65 70 ch (omega arith), above-range 97 102 ch h, hex_digit)
 
-  pub hex-above : 102 < ch → HexIs ch Hex.Not
+  pub hex-above : 102 < ch → HexIs ch None
   hex-above h = hex-none (past-digits h)
 
 pub ruleset hexes = (hex-below, hex-decimal, hex-between, hex-capital, hex-before, hex-small, hex-above)
@@ -73,21 +73,21 @@ digit-seen z = same_seen hex_digit none (λ b h. past-digits (omega arith)) z
 
 -- ---- four digits
 
--- So many digits are left to read, behind the value so far.
-pub record HexLoop (s : List ℕ) (first at₀ at unit left : ℕ) : Type 0 where
-  pub is : hex_from 4 s first 0 at₀ ≡ hex_from left s first unit at
-  pub gone : at + left ≡ at₀ + 4
+-- So many digits are read, and this is their value.
+pub record HexLoop (s : List ℕ) (first at₀ at unit n : ℕ) : Type 0 where
+  pub is : hex_from 4 s first 0 at₀ ≡ hex_from (4 - n) s first unit at
+  pub gone : at ≡ at₀ + n
   pub inside : at ≤ max at₀ (length s)
-  pub low : (unit + 1) * 16 ^ left ≤ 65536
+  pub low : (unit + 1) * 16 ^ (4 - n) ≤ 65536
   pub small : unit < 65536
 
-hex-some : (o : Option ℕ) {d : ℕ} → hex_of o ≡ Hex.Digit d → o ≡ some d
-hex-some none e = clash (cc)
-hex-some (some x) e = cc
+pub maybe-some : (o : Option ℕ) {d : ℕ} → maybe o ≡ Some d → o ≡ some d
+maybe-some none e = clash (cc)
+maybe-some (some x) e = cc
 
-hex-no : (o : Option ℕ) → hex_of o ≡ Hex.Not → o ≡ none
-hex-no none e = refl
-hex-no (some x) e = clash (cc)
+pub maybe-none : (o : Option ℕ) → maybe o ≡ None → o ≡ none
+maybe-none none e = refl
+maybe-none (some x) e = clash (cc)
 
 -- what a value may come to bounds it
 bounded : (v n : ℕ) → (v + 1) * 16 ^ n ≤ 65536 → v < 65536
@@ -103,56 +103,56 @@ digit-ascii {ch} {d} e = go (ltb ch 128) refl
     go true f = ltb-true ch 128 f
     go false f = let b = ltb-false ch 128 f in clash (cc (past-digits {ch = ch} (omega arith)))
 
-pub digits-start : {s : List ℕ} {first at : ℕ} → HexLoop s first at at 0 4
-digits-start = record { is = refl; gone = refl; inside = omega arith; low = le_refl 65536; small = omega arith }
+pub digits-start : {s : List ℕ} {first at : ℕ} → HexLoop s first at at 0 0
+digits-start = record { is = refl; gone = omega arith; inside = omega arith; low = le_refl 65536; small = omega arith }
 
-module _ {s : List ℕ} {first at₀ at unit left : ℕ} (I : HexLoop s first at₀ at unit left) where
-  pub digits-done : {c : Cursor} → c.at.0 ≡ at → left ≤ 0 → UnitIs s first at₀ (CodeUnit.Value unit c)
+module _ {s : List ℕ} {first at₀ at unit n : ℕ} (I : HexLoop s first at₀ at unit n) where
+  pub digits-done : {c : Cursor} → c.at.0 ≡ at → n ≤ 4 → 4 ≤ n → UnitIs s first at₀ (Ok (code_unit unit c))
   unfolding hex_from
-  digits-done {c} e h =
-      let z : left ≡ 0 = omega arith in
+  digits-done {c} e l h =
+      let z : 4 - n ≡ 0 = omega arith in
       record { is = I.is ∙ rw (z, e); far = (I.small, omega (arith, I.gone), omega (arith, I.gone, I.inside)) }
 
-  module _ (more : 0 < left) where
-    left_is : left ≡ suc (left - 1)
+  module _ (more : n < 4) where
+    left_is : 4 - n ≡ suc (4 - (n + 1))
     left_is = omega arith
 
-    turn : hex_from 4 s first 0 at₀ ≡ hex_from (suc (left - 1)) s first unit at
-    turn = I.is ∙ ap (λ (n : ℕ). hex_from n s first unit at) left_is
+    turn : hex_from 4 s first 0 at₀ ≡ hex_from (suc (4 - (n + 1))) s first unit at
+    turn = I.is ∙ ap (λ (m : ℕ). hex_from m s first unit at) left_is
 
     module _ {r : Step} (h : StepIs s at r) where
-      pub digits-cut : r ≡ Step.End → UnitIs s first at₀ (CodeUnit.Refused 4 (doc (length s)))
+      pub digits-cut : r ≡ Step.End → UnitIs s first at₀ (Err (refusal 4 (doc (length s))))
       unfolding hex_from
       digits-cut e = record { is = turn ∙ rw (le-leb (length s) at (at-end h e), hex_from); far = tt }
 
-      module _ {ch : ℕ} {c : Cursor} (e : r ≡ Step.Char ch c) {q : Hex} (k : HexIs ch q) where
-        bad : q ≡ Hex.Not → hex_from 4 s first 0 at₀ ≡ refused (placed 5 first)
+      module _ {ch : ℕ} {c : Cursor} (e : r ≡ Step.Char ch c) {q : Maybe ℕ} (k : HexIs ch q) where
+        bad : q ≡ None → hex_from 4 s first 0 at₀ ≡ refused (placed 5 first)
         unfolding hex_from
         bad i =
             let z = seen h e in
-            turn ∙ rw (lt-leb (length s) at z.within, digit-seen z ∙ hex-no (hex_digit ch) (sym k.is ∙ i), hex_from)
+            turn ∙ rw (lt-leb (length s) at z.within, digit-seen z ∙ maybe-none (hex_digit ch) (sym k.is ∙ i), hex_from)
 
-        pub digits-bad : {place : DocAt} → place.0 ≡ first → q ≡ Hex.Not → UnitIs s first at₀ (CodeUnit.Refused 5 place)
-        digits-bad {place} f i = record { is = bad i ∙ ap (λ (n : ℕ). refused (placed 5 n)) (sym f); far = tt }
+        pub digits-bad : {place : DocAt} → place.0 ≡ first → q ≡ None → UnitIs s first at₀ (Err (refusal 5 place))
+        digits-bad {place} f i = record { is = bad i ∙ ap (λ (m : ℕ). refused (placed 5 m)) (sym f); far = tt }
 
-        module _ {d : ℕ} (i : q ≡ Hex.Digit d) where
+        module _ {d : ℕ} (i : q ≡ Some d) where
           digit : hex_digit ch ≡ some d
-          digit = hex-some (hex_digit ch) (sym k.is ∙ i)
+          digit = maybe-some (hex_digit ch) (sym k.is ∙ i)
 
           below : d < 16
           below = rw i at k.small
 
           -- each digit takes one power of 16 off what the value may yet come to
-          lower : (unit * 16 + d + 1) * 16 ^ (left - 1) ≤ 65536
+          lower : (unit * 16 + d + 1) * 16 ^ (4 - (n + 1)) ≤ 65536
           lower =
               let b : d < 16 = below in
               let m : unit * 16 + d + 1 ≤ (unit + 1) * 16 = omega arith in
-              let p : (unit + 1) * 16 ^ left ≡ (unit + 1) * 16 * 16 ^ (left - 1) =
-              ap (λ (n : ℕ). (unit + 1) * 16 ^ n) left_is ∙ ap (λ (n : ℕ). (unit + 1) * n) (pow-succ' 16 (left - 1))
-              ∙ sym (mul_assoc (unit + 1) 16 (16 ^ (left - 1))) in
-              le_trans (mul-le-mul_right (16 ^ (left - 1)) m) (omega (arith, I.low, p))
+              let p : (unit + 1) * 16 ^ (4 - n) ≡ (unit + 1) * 16 * 16 ^ (4 - (n + 1)) =
+              ap (λ (j : ℕ). (unit + 1) * 16 ^ j) left_is ∙ ap (λ (j : ℕ). (unit + 1) * j) (pow-succ' 16 (4 - (n + 1)))
+              ∙ sym (mul_assoc (unit + 1) 16 (16 ^ (4 - (n + 1)))) in
+              le_trans (mul-le-mul_right (16 ^ (4 - (n + 1))) m) (omega (arith, I.low, p))
 
-          pub digits-turn : HexLoop s first at₀ c.at.0 (unit * 16 + d) (left - 1)
+          pub digits-turn : HexLoop s first at₀ c.at.0 (unit * 16 + d) (n + 1)
           unfolding hex_from
           digits-turn =
               let z = seen h e in
@@ -162,7 +162,7 @@ module _ {s : List ℕ} {first at₀ at unit left : ℕ} (I : HexLoop s first at
                 gone = omega (arith, I.gone);
                 inside = omega (arith, z.inside);
                 low = lower;
-                small = omega (arith, bounded (unit * 16 + d) (left - 1) lower);
+                small = omega (arith, bounded (unit * 16 + d) (4 - (n + 1)) lower);
               }
 
           pub digits-fit : Fits w32 (unit * 16 + d)

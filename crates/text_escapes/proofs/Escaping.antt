@@ -2,39 +2,32 @@
 use mathlib.Core.Path.{◌≡◌, refl, sym, ap, ◌∙◌}
 use mathlib.Core.Bool.{Bool, true, false}
 use mathlib.Core.List.{List, [], ◌∷◌}
-use mathlib.Core.Option.{Option, none, some}
+use mathlib.Core.Option.{none, some}
+use Rattle.std.specs.Prelude.{Option, Some, None, Result, Ok, Err}
 use Prim.Native.Nat.{ℕ, ◌+◌, ◌-◌, ◌≤◌, ◌<◌}
 use native.Mathlib.Omega.{arith}
 use lib.Dec.{ltb}
 use lib.ListN.{length, set}
 use borrow.Author.Tests.{le-leb, lt-leb, ltb-true, ltb-false}
 use Rattle.rules.specs.Characters.{no_character}
-use Rattle.rules.specs.Bytes.{Text, byte_at}
+use Rattle.rules.specs.Bytes.{byte_at}
 use Rattle.rules.specs.Refusals.{placed, ended, ok}
 use Rattle.rules.specs.Strings.{unicode_escape, letter_escape, escape_at}
-use Rattle.text_chars.specs.Cursor.{doc, StepIs}
+use Rattle.text_chars.specs.Cursor.{doc, refusal, StepIs}
 use Rattle.text_chars.specs.Seen.{Seen, seen, at-end, seen-eq, seen-ne}
 use Rattle.text_chars.specs.declared.DocAt.{DocAt}
 use Rattle.text_chars.specs.declared.Cursor.{Cursor}
 use Rattle.text_chars.specs.declared.Step.{Step}
-use Rattle.text_escapes.specs.Clauses.{letter_of, LetterIs, point_scan, PointFar, PointIs}
+use Rattle.text_chars.specs.declared.Refusal.{Refusal}
+use Rattle.text_escapes.specs.Clauses.{LetterIs, point_scan, PointFar, PointIs}
 use Rattle.text_bytes.specs.Clauses.{EncodeIs}
-use Rattle.text_escapes.specs.Clauses.{sized, EscapeIs}
+use Rattle.text_escapes.specs.Clauses.{sized, quoted, EscapeIs}
 use Rattle.text_chars.specs.Clash.{clash}
 use Rattle.text_escapes.specs.Answers.{decoded-text, decoded-refusal}
 use Rattle.text_escapes.specs.declared.CodePoint.{CodePoint}
-use Rattle.text_escapes.specs.declared.Letter.{Letter}
-use Rattle.text_escapes.specs.declared.Quoted.{Quoted}
 use Rattle.text_escapes.proofs.Characters.{past-letters, letter-seen}
+use Rattle.text_escapes.proofs.Digits.{maybe-some, maybe-none}
 use Rattle.text_bytes.specs.Buffers.{write-text}
-
-letter-byte : (o : Option ℕ) {b : ℕ} → letter_of o ≡ Letter.Byte b → o ≡ some b
-letter-byte none e = clash (cc)
-letter-byte (some x) e = cc
-
-letter-not : (o : Option ℕ) → letter_of o ≡ Letter.Not → o ≡ none
-letter-not none e = refl
-letter-not (some x) e = clash (cc)
 
 letter-ascii : (ch : ℕ) {b : ℕ} → letter_escape ch ≡ some b → ch < 128
 letter-ascii ch {b} e = go (ltb ch 128) refl
@@ -44,7 +37,7 @@ letter-ascii ch {b} e = go (ltb ch 128) refl
     go false f = clash (cc (past-letters ch (ltb-false ch 128 f)))
 
 module _ {s : List ℕ} (first : DocAt) {c : Cursor} (w : c.at.0 ≡ first.0 + 1) {r : Step} (h : StepIs s c.at.0 r) where
-  pub escape-cut : {b : List ℕ} → r ≡ Step.End → EscapeIs s first.0 b b (Quoted.Refused 4 (doc (length s)))
+  pub escape-cut : {b : List ℕ} → r ≡ Step.End → EscapeIs s first.0 b b (Err (refusal 4 (doc (length s))))
   unfolding escape_at
   escape-cut e =
       let p : length s ≤ first.0 + 1 = omega (arith, at-end h e) in
@@ -57,12 +50,12 @@ module _ {s : List ℕ} (first : DocAt) {c : Cursor} (w : c.at.0 ≡ first.0 + 1
     pub escape-room : (b : List ℕ) → length s - first.0 ≤ length b → 0 < length b
     escape-room b l = omega (arith, here.within)
 
-    module _ {q : Letter} (k : LetterIs ch q) where
-      pub escape-letter : {b : List ℕ} {v : ℕ} → q ≡ Letter.Byte v → length s - first.0 ≤ length b
-          → EscapeIs s first.0 b (set b 0 v) (Quoted.Text d (sized 1))
+    module _ {q : Option ℕ} (k : LetterIs ch q) where
+      pub escape-letter : {b : List ℕ} {v : ℕ} → q ≡ Some v → length s - first.0 ≤ length b
+          → EscapeIs s first.0 b (set b 0 v) (Ok (quoted d (sized 1)))
       unfolding escape_at
       escape-letter {b} {v} f l =
-          let i : letter_escape ch ≡ some v = letter-byte (letter_escape ch) (sym k.is ∙ f) in
+          let i : letter_escape ch ≡ some v = maybe-some (letter_escape ch) (sym k.is ∙ f) in
           let j : letter_escape (byte_at s (first.0 + 1)) ≡ some v = letter-seen here ∙ i in
           let o : d.at.0 ≡ first.0 + 2 = omega (arith, here.one (letter-ascii ch i)) in
           let y = write-text (v ∷ []) b (escape-room b l) in
@@ -70,17 +63,17 @@ module _ {s : List ℕ} (first : DocAt) {c : Cursor} (w : c.at.0 ≡ first.0 + 1
           (rw (lt-leb (length s) (first.0 + 1) here.within, j, escape_at) (ap (ok (v ∷ [])) (sym o))) refl y.bytes
           (omega arith, here.inside, omega arith)
 
-      module _ (f : q ≡ Letter.Not) where
+      module _ (f : q ≡ None) where
         no-letter-here : letter_escape (byte_at s (first.0 + 1)) ≡ none
-        no-letter-here = letter-seen here ∙ letter-not (letter_escape ch) (sym k.is ∙ f)
+        no-letter-here = letter-seen here ∙ maybe-none (letter_escape ch) (sym k.is ∙ f)
 
-        pub escape-other : {b : List ℕ} → (ch ≡ 117 → ⊥) → EscapeIs s first.0 b b (Quoted.Refused 5 first)
+        pub escape-other : {b : List ℕ} → (ch ≡ 117 → ⊥) → EscapeIs s first.0 b b (Err (refusal 5 first))
         unfolding escape_at
         escape-other n =
             decoded-refusal refl {x = placed 5 first.0}
             (rw (lt-leb (length s) (first.0 + 1) here.within, no-letter-here, seen-ne here 117 (omega arith) n, escape_at)) refl refl
 
-        module _ (u : ch ≡ 117) {x : CodePoint} (m : PointIs (unicode_escape s first.0 d.at.0) s d.at.0 x) where
+        module _ (u : ch ≡ 117) {x : Result CodePoint Refusal} (m : PointIs (unicode_escape s first.0 d.at.0) s d.at.0 x) where
           two : d.at.0 ≡ first.0 + 2
           two = omega (arith, here.one (omega arith))
 
@@ -90,20 +83,20 @@ module _ {s : List ℕ} (first : DocAt) {c : Cursor} (w : c.at.0 ≡ first.0 + 1
               rw (lt-leb (length s) (first.0 + 1) here.within, no-letter-here, seen-eq here 117 (omega arith) u, escape_at)
               (rw (← two) m.is)
 
-          pub escape-bad : {b : List ℕ} {n : ℕ} {p : DocAt} → x ≡ CodePoint.Refused n p → EscapeIs s first.0 b b (Quoted.Refused n p)
-          escape-bad {b} {n} {p} g = decoded-refusal refl {x = placed n p.0} (unicode ∙ ap point_scan g) refl refl
+          pub escape-bad : {b : List ℕ} {y : Refusal} → x ≡ Err y → EscapeIs s first.0 b b (Err y)
+          escape-bad {b} {y} g = decoded-refusal refl {x = placed y.number y.place.0} (unicode ∙ ap point_scan g) refl refl
 
-          module _ {v : ℕ} {end : Cursor} (g : x ≡ CodePoint.Is v end) where
-            far : PointFar (length s) d.at.0 (CodePoint.Is v end)
+          module _ {v : CodePoint} (g : x ≡ Ok v) where
+            far : PointFar (length s) d.at.0 (Ok v)
             far = rw g at m.far
 
-            pub encode-small : v < no_character
+            pub encode-small : v.ch < no_character
             encode-small = far.0
 
             pub encode-room : (b : List ℕ) → length s - first.0 ≤ length b → 4 ≤ length b
             encode-room b l = omega (arith, two, far.1, far.2)
 
-            pub escape-point : {b a : List ℕ} {n : ℕ} → EncodeIs v b a n → EscapeIs s first.0 b a (Quoted.Text end (sized n))
+            pub escape-point : {b a : List ℕ} {n : ℕ} → EncodeIs v.ch b a n → EscapeIs s first.0 b a (Ok (quoted v.next (sized n)))
             escape-point {b} {a} {n} y =
                 decoded-text y.wrote.kept (unicode ∙ ap point_scan g) y.wrote.is y.wrote.bytes
                 (omega (arith, two, far.1), far.2, omega (arith, two, far.1, y.high))

@@ -6,7 +6,7 @@ ghost use Rattle.rules.specs.Strings.{is_high, is_low};
 ghost use Rattle.text_escapes.specs.Units.{HexIs, UnitIs, High, Low, PairIs};
 
 use codes::{bytes, letters, refusals};
-use text_chars::{Cursor, DocAt, Step};
+use text_chars::{Cursor, DocAt, Refusal, Step};
 
 // What is taken from a capital and from a small letter to have its value as a digit: A is 10.
 const CAPITALS: u32 = letters::CAPITAL_A - 10;
@@ -24,81 +24,69 @@ const LAST_LOW: u32 = 0xDFFF;
 
 const FIRST_PAIR: u32 = 0x10000;
 
-/// A character as a hexadecimal digit.
+// The digits of a code unit.
+const DIGITS: usize = 4;
+
+/// A code unit of four hexadecimal digits, and the cursor past it.
 #[derive(Clone, Copy)]
-pub enum Hex {
-    // it is none
-    Not,
-    // its value
-    Digit(u32),
+pub struct Unit {
+    pub unit: u32,
+    pub next: Cursor,
 }
 
-/// A code unit of four hexadecimal digits.
-#[derive(Clone, Copy)]
-pub enum Unit {
-    // its value, and the cursor past it
-    Value { unit: u32, next: Cursor },
-    // a character that is no digit, or the end
-    Refused { number: u8, place: DocAt },
-}
-
-/// The value of a character as a hexadecimal digit.
-pub fn hex_digit(ch: u32) -> Hex
+/// The value of a character as a hexadecimal digit, if it is one.
+pub fn hex_digit(ch: u32) -> Option<u32>
     ensures { HexIs ch result }
 {
     if ch < bytes::ZERO {
-        return Hex::Not;
+        return None;
     }
     if ch <= bytes::NINE {
-        return Hex::Digit(ch - bytes::ZERO);
+        return Some(ch - bytes::ZERO);
     }
     if ch < letters::CAPITAL_A {
-        return Hex::Not;
+        return None;
     }
     if ch <= letters::CAPITAL_F {
-        return Hex::Digit(ch - CAPITALS);
+        return Some(ch - CAPITALS);
     }
     if ch < letters::A {
-        return Hex::Not;
+        return None;
     }
     if ch <= letters::F {
-        return Hex::Digit(ch - SMALLS);
+        return Some(ch - SMALLS);
     }
-    Hex::Not
+    None
 }
 
 /// The code unit that four hexadecimal digits give; `first` is the place of their escape.
-pub fn hex_four(s: &[u8], c: Cursor, first: DocAt) -> Unit
+pub fn hex_four(s: &[u8], c: Cursor, first: DocAt) -> Result<Unit, Refusal>
     requires { length s.now ≤ max_document }
     ensures { UnitIs s.now first.0 c.at.0 result }
 {
     let mut at = c;
     let mut unit: u32 = 0;
-    let mut left: usize = 4;
-    while 0 < left {
+    for turn in 0..DIGITS {
         match at.step(s) {
             Step::End => {
-                return Unit::Refused {
+                return Err(Refusal {
                     number: refusals::UNEXPECTED_END,
                     place: DocAt(s.len()),
-                };
+                });
             }
-            Step::Char { ch, next } => match hex_digit(ch) {
-                Hex::Not => {
-                    return Unit::Refused {
+            Step::Char { ch, next } => {
+                let Some(d) = hex_digit(ch) else {
+                    return Err(Refusal {
                         number: refusals::BAD_NUMBER_OR_STRING,
                         place: first,
-                    };
-                }
-                Hex::Digit(d) => {
-                    unit = unit * 16 + d;
-                    at = next;
-                    left -= 1;
-                }
-            },
+                    });
+                };
+                unit = unit * 16 + d;
+                at = next;
+            }
         }
     }
-    Unit::Value { unit, next: at }
+    Ok(Unit { unit, next: at })
 }
 
 /// Whether a code unit is the first half of a surrogate pair.

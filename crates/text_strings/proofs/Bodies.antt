@@ -1,6 +1,7 @@
 -- A quoted string's body, piece by piece: the loop's invariant, and one law for each way out of a turn.
 use mathlib.Core.Path.{◌≡◌, refl, sym, ap, ◌∙◌}
 use mathlib.Core.Bool.{Bool, true, false}
+use Rattle.std.specs.Prelude.{Result, Ok, Err}
 use mathlib.Core.List.{List, [], ◌++◌, append-nil, append_assoc}
 use Prim.Native.Nat.{ℕ, suc, ◌+◌, ◌-◌, ◌≤◌, ◌<◌, ◌^◌}
 use native.Mathlib.Omega.{arith}
@@ -11,19 +12,18 @@ use lib.ListN.{length, take, drop, length-append, take-append-drop}
 use lib.Seq.{slice, slice_empty, length-slice, length-take-le, take-take, drop-append-le}
 use borrow.Author.Tests.{lt-leb}
 use Rattle.rules.specs.Bytes.{Text, byte_at}
-use Rattle.rules.specs.Refusals.{placed, Scan, ok, refused, and_then}
+use Rattle.rules.specs.Refusals.{Scan, ok, refused, and_then}
 use Rattle.rules.specs.Characters.{next_place}
 use Rattle.rules.specs.Strings.{escape_at, prepend, body_from}
 use Rattle.theory_text.specs.Places.{next-forward}
-use Rattle.text_chars.specs.declared.DocAt.{DocAt}
 use Rattle.text_chars.specs.declared.Cursor.{Cursor}
+use Rattle.text_chars.specs.declared.Refusal.{Refusal}
 use Rattle.text_runs.specs.Clauses.{stops, Passed, none, on, PlainIs}
 use Rattle.text_runs.specs.Passing.{goes_over, passed-forward}
 use Rattle.text_bytes.specs.Clauses.{Laid, WriteIs}
-use Rattle.text_escapes.specs.Clauses.{sized}
+use Rattle.text_escapes.specs.Clauses.{sized, quoted}
 use Rattle.text_strings.specs.Clauses.{BodyIs, Turn, closed, more, refused, turn_of, turn_at, PieceFar, PieceIs}
 use Rattle.text_escapes.specs.Answers.{decoded-text, decoded-refusal}
-use Rattle.text_chars.specs.declared.TextLen.{TextLen}
 use Rattle.text_escapes.specs.declared.Quoted.{Quoted}
 use Rattle.text_strings.specs.declared.Piece.{Piece}
 use Rattle.text_chars.specs.Parts.{part, back, part_length, back-length}
@@ -205,29 +205,29 @@ module _ {s : List ℕ} {at₀ : ℕ} {b : List ℕ} {at : ℕ} {x : List ℕ} {
       pub run_fits : length b < 2 ^ 64 → Fits w64 (used + n)
       run_fits l = record { fits = omega (arith, I.room, long, run_inside) }
 
-  module _ {y : List ℕ} {q : Piece} (h : PieceIs s at (part used x) y q) where
+  module _ {y : List ℕ} {q : Result Piece Refusal} (h : PieceIs s at (part used x) y q) where
     same_length : length (back used x y) ≡ length b
     same_length = back-length used x y body-part h.kept ∙ I.kept
 
-    pub body_refused : {k : ℕ} {p : DocAt} → q ≡ Piece.Refused k p → BodyIs s at₀ b (back used x y) (Quoted.Refused k p)
+    pub body_refused : {z : Refusal} → q ≡ Err z → BodyIs s at₀ b (back used x y) (Err z)
     body_refused e =
         let t = bad-is h e in
         decoded-refusal same_length (turn t.is) t.numbered t.placed
 
-    pub body-close : {c : Cursor} → q ≡ Piece.Close c → BodyIs s at₀ b (back used x y) (Quoted.Text c (sized used))
+    pub body-close : {c : Cursor} → q ≡ Ok ((Piece.Close c)) → BodyIs s at₀ b (back used x y) (Ok (quoted c (sized used)))
     body-close {c} e =
         let t = close-is h e in
-        let f : PieceFar (length s) at (Piece.Close c) = rw e at h.far in
+        let f : PieceFar (length s) at (Ok (Piece.Close c)) = rw e at h.far in
         let all : I.text ++ [] ≡ I.text = append-nil I.text in
         decoded-text same_length (turn t.is) (I.size ∙ ap length (sym all))
         (laid-join I.text [] b x y used I.size I.bytes t.same)
         (omega (arith, I.few), f.1, omega (arith, I.few))
 
-    module _ {c : Cursor} {m : TextLen} (e : q ≡ Piece.More c m) where
-      far : PieceFar (length s) at (Piece.More c m)
+    module _ {v : Quoted} (e : q ≡ Ok (Piece.More v)) where
+      far : PieceFar (length s) at (Ok (Piece.More v))
       far = rw e at h.far
 
-      pub body-turn : BodyLoop s at₀ b c.at.0 (back used x y) (used + m.0)
+      pub body-turn : BodyLoop s at₀ b v.next.at.0 (back used x y) (used + v.used.0)
       body-turn =
           let t = more-is h e in
           record {
@@ -235,7 +235,7 @@ module _ {s : List ℕ} {at₀ : ℕ} {b : List ℕ} {at : ℕ} {x : List ℕ} {
             fuel = I.fuel - 1;
             enough = omega (arith, far.0, far.1, I.enough);
             is = turn t.is
-                ∙ prepend-prepend I.text t.text (body_from (I.fuel - 1) s c.at.0);
+                ∙ prepend-prepend I.text t.text (body_from (I.fuel - 1) s v.next.at.0);
             size = omega (arith, I.size, t.size, length-append I.text t.text);
             bytes = laid-join I.text t.text b x y used I.size I.bytes t.laid;
             kept = same_length;
@@ -244,22 +244,11 @@ module _ {s : List ℕ} {at₀ : ℕ} {b : List ℕ} {at : ℕ} {x : List ℕ} {
             room = omega (arith, I.room, far.0, far.1, far.2);
           }
 
-      more-fits : length b < 2 ^ 64 → Fits w64 (used + m.0)
-      more-fits l = record { fits = omega (arith, I.room, far.0, far.1, far.2) }
-
 -- a piece behind a run
-pub body_less : (s : List ℕ) (at : ℕ) {d : Cursor} {u z : List ℕ} {q : Piece} {c : Cursor} {m : TextLen} → PlainIs s at d → PieceIs s d.at.0 u z q
-    → q ≡ Piece.More c m → length s - c.at.0 < length s - at
-body_less s at {d} {c = c} {m = m} r h e =
-    let f : PieceFar (length s) d.at.0 (Piece.More c m) = rw e at h.far in
+pub body_less : (s : List ℕ) (at : ℕ) {d : Cursor} {u z : List ℕ} {q : Result Piece Refusal} {v : Quoted} → PlainIs s at d → PieceIs s d.at.0 u z q
+    → q ≡ Ok (Piece.More v) → length s - v.next.at.0 < length s - at
+body_less s at {d} {v = v} r h e =
+    let f : PieceFar (length s) d.at.0 (Ok (Piece.More v)) = rw e at h.far in
     omega (arith, r.forward, f.0, f.1)
 
-pub body-fits : {s : List ℕ} {at₀ : ℕ} {b : List ℕ} {at : ℕ} {x : List ℕ} {used : ℕ} {d : Cursor} {y : List ℕ} {n : ℕ} {z : List ℕ} {q : Piece}
-    {c : Cursor} {m : TextLen} → BodyLoop s at₀ b at x used → PlainIs s at d → WriteIs (slice at d.at.0 s) (part used x) y n
-    → PieceIs s d.at.0 (part (used + n) (back used x y)) z q → q ≡ Piece.More c m → length b < 2 ^ 64 → Fits w64 (used + n + m.0)
-body-fits I r w h e l = more-fits (body_run I r w) h e l
-
 pub ruleset bodies = (arith, body-start, run-order, run_inside, run_room, body_run, behind-part, behind-room, run_fits, body-part, body-room, body_refused, body-close, body-turn, body_less)
-
--- for the sum behind a piece: with all laws at hand a search is too long
-pub ruleset sums = (arith, body-fits)

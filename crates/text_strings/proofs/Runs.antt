@@ -2,6 +2,7 @@
 use mathlib.Core.Path.{◌≡◌, refl, sym, ap, ◌∙◌}
 use mathlib.Core.Bool.{Bool, true, false, not, ◌&&◌}
 use mathlib.Core.List.{List}
+use Rattle.std.specs.Prelude.{Option, Some, None, Result, Ok, Err}
 use Prim.Native.Nat.{ℕ, ◌+◌, ◌-◌, ◌≤◌, ◌<◌}
 use native.Mathlib.Omega.{arith}
 use lib.Dec.{leb, ltb, eqb}
@@ -9,28 +10,24 @@ use lib.ListN.{length}
 use lib.Seq.{slice, length-slice}
 use borrow.Author.Tests.{lt-ltb, le-ltb, leb-true}
 use Rattle.rules.specs.Bytes.{byte_at}
-use Rattle.rules.specs.Refusals.{Refusal, ended, Scan, ok, refused}
+use Rattle.rules.specs.Refusals.{Refusal as Refusing, ended, Scan, ok, refused}
 use Rattle.rules.specs.Strings.{expect, three_quotes, quotes_run, after_quotes}
 use Rattle.theory_text.specs.Choices.{by-test}
 use Rattle.theory_text.specs.Places.{byte_past, quotes-reached}
 use Rattle.theory.specs.Walks.{run_on, run-off, quotes-on, quotes-off}
-use Rattle.text_chars.specs.Cursor.{doc, StepIs}
+use Rattle.text_chars.specs.Cursor.{doc, refusal, StepIs}
 use Rattle.text_chars.specs.Seen.{seen, at-end}
-use Rattle.text_chars.specs.declared.DocAt.{DocAt}
 use Rattle.text_chars.specs.declared.Cursor.{Cursor}
 use Rattle.text_chars.specs.declared.Step.{Step}
+use Rattle.text_chars.specs.declared.Refusal.{Refusal}
 use Rattle.text_escapes.specs.Clauses.{expect_scan, ExpectFar, ExpectIs}
 use Rattle.text_runs.specs.Clauses.{Passed, none, on, RawRunIs}
 use Rattle.text_runs.specs.Passing.{goes_over}
 use Rattle.text_bytes.specs.Clauses.{WriteIs}
-use Rattle.text_escapes.specs.Clauses.{sized}
+use Rattle.text_escapes.specs.Clauses.{sized, quoted}
 use Rattle.text_strings.specs.Clauses.{ThreeSays, ThreeIs, RunSays, RunIs, AfterIs, raw_from, RawIs}
 use Rattle.text_chars.specs.Clash.{clash}
 use Rattle.text_escapes.specs.Answers.{decoded-text, decoded-refusal}
-use Rattle.text_escapes.specs.declared.Expected.{Expected}
-use Rattle.text_escapes.specs.declared.Quoted.{Quoted}
-use Rattle.text_strings.specs.declared.triple.Three.{Three}
-use Rattle.text_strings.specs.declared.triple.Run.{Run}
 
 -- ---- a quote, or none
 
@@ -41,52 +38,52 @@ module _ (b : ℕ) (s : List ℕ) (first at : ℕ) where
       by-test (λ (m : Scan ℕ). m ≡ ok x p → eqb (byte_at s at) b ≡ true) (leb (length s) at) (λ e h. clash (cc)) (λ e.
       by-test (λ (m : Scan ℕ). m ≡ ok x p → eqb (byte_at s at) b ≡ true) (eqb (byte_at s at) b) (λ f h. f) (λ f h. clash (cc)))
 
-  is-not-there : {x : Refusal} → eqb 256 b ≡ false → expect b s first at ≡ refused x → eqb (byte_at s at) b ≡ false
+  is-not-there : {x : Refusing} → eqb 256 b ≡ false → expect b s first at ≡ refused x → eqb (byte_at s at) b ≡ false
   unfolding expect
   is-not-there {x} n =
       by-test (λ (m : Scan ℕ). m ≡ refused x → eqb (byte_at s at) b ≡ false) (leb (length s) at)
       (λ e h. rw (byte_past s at (leb-true (length s) at e)) n) (λ e.
       by-test (λ (m : Scan ℕ). m ≡ refused x → eqb (byte_at s at) b ≡ false) (eqb (byte_at s at) b) (λ f h. clash (cc)) (λ f h. f))
 
-module _ {s : List ℕ} {first at : ℕ} {r : Expected} (h : ExpectIs 34 s first at r) where
-  pub quote : {c : Cursor} → r ≡ Expected.Found c → eqb (byte_at s at) 34 ≡ true
+module _ {s : List ℕ} {first at : ℕ} {r : Result Cursor Refusal} (h : ExpectIs 34 s first at r) where
+  pub quote : {c : Cursor} → r ≡ Ok c → eqb (byte_at s at) 34 ≡ true
   quote e = is-there 34 s first at (h.is ∙ ap (expect_scan 34) e)
 
-  pub no-quote : {k : ℕ} {p : DocAt} → r ≡ Expected.Refused k p → eqb (byte_at s at) 34 ≡ false
+  pub no-quote : {x : Refusal} → r ≡ Err x → eqb (byte_at s at) 34 ≡ false
   no-quote e = is-not-there 34 s first at refl (h.is ∙ ap (expect_scan 34) e)
 
-  pub three-none : {k : ℕ} {p : DocAt} → r ≡ Expected.Refused k p → ThreeIs s at Three.Not
+  pub three-none : {x : Refusal} → r ≡ Err x → ThreeIs s at None
   unfolding three_quotes
   three-none e = record { says = rw (no-quote e, three_quotes) }
 
-  module _ {c : Cursor} (e : r ≡ Expected.Found c) {q : Expected} (k : ExpectIs 34 s first c.at.0 q) where
+  module _ {c : Cursor} (e : r ≡ Ok c) {q : Result Cursor Refusal} (k : ExpectIs 34 s first c.at.0 q) where
     second : c.at.0 ≡ at + 1
-    second = let x : ExpectFar (length s) at (Expected.Found c) = rw e at h.far in x.0
+    second = let x : ExpectFar (length s) at (Ok c) = rw e at h.far in x.0
 
-    pub three-one : {n : ℕ} {p : DocAt} → q ≡ Expected.Refused n p → ThreeIs s at Three.Not
+    pub three-one : {x : Refusal} → q ≡ Err x → ThreeIs s at None
     unfolding three_quotes
     three-one f = record { says = rw (quote e, rw second at (no-quote' f), three_quotes) }
       where
-        no-quote' : {n : ℕ} {p : DocAt} → q ≡ Expected.Refused n p → eqb (byte_at s c.at.0) 34 ≡ false
+        no-quote' : {x : Refusal} → q ≡ Err x → eqb (byte_at s c.at.0) 34 ≡ false
         no-quote' f = is-not-there 34 s first c.at.0 refl (k.is ∙ ap (expect_scan 34) f)
 
-    module _ {d : Cursor} (f : q ≡ Expected.Found d) {u : Expected} (l : ExpectIs 34 s first d.at.0 u) where
+    module _ {d : Cursor} (f : q ≡ Ok d) {u : Result Cursor Refusal} (l : ExpectIs 34 s first d.at.0 u) where
       there : eqb (byte_at s (at + 1)) 34 ≡ true
       there = rw second at (is-there 34 s first c.at.0 (k.is ∙ ap (expect_scan 34) f))
 
       third : d.at.0 ≡ at + 2
-      third = let x : ExpectFar (length s) c.at.0 (Expected.Found d) = rw f at k.far in omega (arith, second)
+      third = let x : ExpectFar (length s) c.at.0 (Ok d) = rw f at k.far in omega (arith, second)
 
-      pub three-two : {n : ℕ} {p : DocAt} → u ≡ Expected.Refused n p → ThreeIs s at Three.Not
+      pub three-two : {x : Refusal} → u ≡ Err x → ThreeIs s at None
       unfolding three_quotes
       three-two g =
           let z : eqb (byte_at s (at + 2)) 34 ≡ false = rw third at (is-not-there 34 s first d.at.0 refl (l.is ∙ ap (expect_scan 34) g)) in
           record { says = rw (quote e, there, z, three_quotes) }
 
-      pub three-past : {end : Cursor} → u ≡ Expected.Found end → ThreeIs s at (Three.Past end)
+      pub three-past : {end : Cursor} → u ≡ Ok end → ThreeIs s at (Some end)
       unfolding three_quotes
       three-past {end} g =
-          let x : ExpectFar (length s) d.at.0 (Expected.Found end) = rw g at l.far in
+          let x : ExpectFar (length s) d.at.0 (Ok end) = rw g at l.far in
           let z : eqb (byte_at s (at + 2)) 34 ≡ true = rw third at (is-there 34 s first d.at.0 (l.is ∙ ap (expect_scan 34) g)) in
           record { says = (rw (quote e, there, z, three_quotes), omega (arith, third), x.1) }
 
@@ -116,19 +113,19 @@ run-passed {s} (on {p} k i g e) =
 run-over : {s : List ℕ} {at₀ at : ℕ} {c : Cursor} → RunLoop s at₀ at → RawRunIs s at c → RunLoop s at₀ c.at.0
 run-over I r = record { is = I.is ∙ run-passed r.passed; low = omega (arith, I.low, r.forward) }
 
-module _ {s : List ℕ} {at₀ at : ℕ} (before : RunLoop s at₀ at) {c : Cursor} (r : RawRunIs s at c) {q : Three} (h : ThreeIs s c.at.0 q) where
+module _ {s : List ℕ} {at₀ at : ℕ} (before : RunLoop s at₀ at) {c : Cursor} (r : RawRunIs s at c) {q : Option Cursor} (h : ThreeIs s c.at.0 q) where
   I : RunLoop s at₀ c.at.0
   I = run-over before r
 
-  pub run-found : {d : Cursor} → q ≡ Three.Past d → RunIs s at₀ (Run.At c)
+  pub run-found : {d : Cursor} → q ≡ Some d → RunIs s at₀ (Some c)
   run-found {d} f =
-      let z : ThreeSays s c.at.0 (Three.Past d) = rw f at h.says in
+      let z : ThreeSays s c.at.0 (Some d) = rw f at h.says in
       let i : c.at.0 < length s = omega arith in
       let off : (ltb c.at.0 (length s) && not (three_quotes s c.at.0)) ≡ false = rw (lt-ltb c.at.0 (length s) i, z.0) in
       record { says = (sym (I.is ∙ run-off s c.at.0 off), z.0, I.low, i) }
 
-  module _ (f : q ≡ Three.Not) {t : Step} (k : StepIs s c.at.0 t) where
-    pub run_end : t ≡ Step.End → RunIs s at₀ Run.Nowhere
+  module _ (f : q ≡ None) {t : Step} (k : StepIs s c.at.0 t) where
+    pub run_end : t ≡ Step.End → RunIs s at₀ None
     run_end e =
         let p : length s ≤ c.at.0 = at-end k e in
         let off : (ltb c.at.0 (length s) && not (three_quotes s c.at.0)) ≡ false = rw (le-ltb c.at.0 (length s) p) in
@@ -137,7 +134,7 @@ module _ {s : List ℕ} {at₀ at : ℕ} (before : RunLoop s at₀ at) {c : Curs
     pub run-turn : {ch : ℕ} {d : Cursor} → t ≡ Step.Char ch d → RunLoop s at₀ d.at.0
     run-turn {ch} {d} e =
         let z = seen k e in
-        let no : ThreeSays s c.at.0 Three.Not = rw f at h.says in
+        let no : ThreeSays s c.at.0 None = rw f at h.says in
         let on : (ltb c.at.0 (length s) && not (three_quotes s c.at.0)) ≡ true = rw (lt-ltb c.at.0 (length s) z.within, no) in
         record { is = I.is ∙ run_on s c.at.0 on ∙ ap (quotes_run s) (sym z.past); low = omega (arith, I.low, z.forward) }
 
@@ -156,19 +153,19 @@ pub record AfterLoop (s : List ℕ) (at₀ at : ℕ) : Type 0 where
 pub after-start : {s : List ℕ} {at : ℕ} → at ≤ length s → AfterLoop s at at
 after-start h = record { is = refl; inside = h }
 
-module _ {s : List ℕ} {at₀ at : ℕ} (I : AfterLoop s at₀ at) {first : ℕ} {r : Expected} (h : ExpectIs 34 s first at r) where
-  pub after-end : {c : Cursor} {k : ℕ} {p : DocAt} → c.at.0 ≡ at → r ≡ Expected.Refused k p → AfterIs s at₀ c
+module _ {s : List ℕ} {at₀ at : ℕ} (I : AfterLoop s at₀ at) {first : ℕ} {r : Result Cursor Refusal} (h : ExpectIs 34 s first at r) where
+  pub after-end : {c : Cursor} {x : Refusal} → c.at.0 ≡ at → r ≡ Err x → AfterIs s at₀ c
   after-end {c} e f = record { is = e ∙ sym (I.is ∙ quotes-off s at (no-quote h f)); inside = omega (arith, I.inside) }
 
-  pub after_turn : {c : Cursor} → r ≡ Expected.Found c → AfterLoop s at₀ c.at.0
+  pub after_turn : {c : Cursor} → r ≡ Ok c → AfterLoop s at₀ c.at.0
   after_turn {c} e =
-      let x : ExpectFar (length s) at (Expected.Found c) = rw e at h.far in
+      let x : ExpectFar (length s) at (Ok c) = rw e at h.far in
       record { is = I.is ∙ quotes-on s at (quote h e) ∙ ap (after_quotes s) (sym x.0); inside = x.1 }
 
-pub expect-less : (s : List ℕ) (at b first : ℕ) {r : Expected} {c : Cursor} → ExpectIs b s first at r → r ≡ Expected.Found c
+pub expect-less : (s : List ℕ) (at b first : ℕ) {r : Result Cursor Refusal} {c : Cursor} → ExpectIs b s first at r → r ≡ Ok c
     → length s - c.at.0 < length s - at
 expect-less s at b first {r} {c} h e =
-    let x : ExpectFar (length s) at (Expected.Found c) = rw e at h.far in
+    let x : ExpectFar (length s) at (Ok c) = rw e at h.far in
     omega arith
 
 pub ruleset afters = (after-start, after-end, after_turn, expect-less)
@@ -187,15 +184,15 @@ past_three s at =
     (λ f g. clash (cc)))
     (λ e g. clash (cc))
 
-module _ {s : List ℕ} {at : ℕ} {q : Run} (h : RunIs s at q) where
-  pub raw-none : {b : List ℕ} → q ≡ Run.Nowhere → RawIs s at b b (Quoted.Refused 4 (doc (length s)))
+module _ {s : List ℕ} {at : ℕ} {q : Option Cursor} (h : RunIs s at q) where
+  pub raw-none : {b : List ℕ} → q ≡ None → RawIs s at b b (Err (refusal 4 (doc (length s))))
   unfolding raw_from
   raw-none e =
       let p : length s ≤ quotes_run s at = rw e at h.says in
       decoded-refusal refl {x = ended s} (rw (le-ltb (quotes_run s at) (length s) p, raw_from)) refl refl
 
-  module _ {c d : Cursor} (e : q ≡ Run.At c) (k : AfterIs s c.at.0 d) where
-    found : RunSays s at (Run.At c)
+  module _ {c d : Cursor} (e : q ≡ Some c) (k : AfterIs s c.at.0 d) where
+    found : RunSays s at (Some c)
     found = rw e at h.says
 
     after : c.at.0 + 3 ≤ d.at.0
@@ -213,7 +210,7 @@ module _ {s : List ℕ} {at : ℕ} {q : Run} (h : RunIs s at q) where
     pub raw-room : (b : List ℕ) → length s - at ≤ length b → d.at.0 - 3 - at ≤ length b
     raw-room b l = omega (arith, k.inside)
 
-    pub raw-text : {b a : List ℕ} {n : ℕ} → WriteIs (slice at (d.at.0 - 3) s) b a n → RawIs s at b a (Quoted.Text d (sized n))
+    pub raw-text : {b a : List ℕ} {n : ℕ} → WriteIs (slice at (d.at.0 - 3) s) b a n → RawIs s at b a (Ok (quoted d (sized n)))
     unfolding raw_from
     raw-text {b} {a} {n} w =
         let run : quotes_run s at ≡ c.at.0 = sym found.0 in
@@ -225,7 +222,7 @@ module _ {s : List ℕ} {at : ℕ} {q : Run} (h : RunIs s at q) where
         decoded-text w.kept (is ∙ ap (λ (p : ℕ). ok (slice at (p - 3) s) p) end) w.is w.bytes
         (omega (arith, after, found.2), k.inside, omega (arith, w.is, long))
 
-pub run_inside : (s : List ℕ) (at : ℕ) {q : Run} {c : Cursor} → RunIs s at q → q ≡ Run.At c → c.at.0 ≤ length s
-run_inside s at {q} {c} h e = let z : RunSays s at (Run.At c) = rw e at h.says in omega (arith, z.3)
+pub run_inside : (s : List ℕ) (at : ℕ) {q : Option Cursor} {c : Cursor} → RunIs s at q → q ≡ Some c → c.at.0 ≤ length s
+run_inside s at {q} {c} h e = let z : RunSays s at (Some c) = rw e at h.says in omega (arith, z.3)
 
 pub ruleset raws = (arith, raw-none, raw-least, raw-order, raw-inside, raw-room, raw-text, run_inside)

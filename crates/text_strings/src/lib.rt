@@ -13,60 +13,55 @@ ghost use Rattle.rules.specs.Bytes.{byte_at};
 ghost use Rattle.text_strings.specs.Clauses.{QuotedIs, BodyIs, PieceIs};
 
 use text_bytes::copy;
-use text_chars::{Cursor, DocAt, Step, TextLen};
-use text_escapes::{Expected, Quoted, escape, expect};
+use text_chars::{Cursor, DocAt, Refusal, Step, TextLen};
+use text_escapes::{Quoted, escape, expect};
 use text_runs::plain_end;
-use triple::{Three, raw, three_quotes};
+use triple::{raw, three_quotes};
 
-// A piece of a quoted string's body, with the cursor past it.
+// A piece of a quoted string's body.
 #[derive(Clone, Copy)]
 enum Piece {
-    // its closing quote
-    Close { next: Cursor },
-    // one character or one escape: so many bytes of text
-    More { next: Cursor, used: TextLen },
-    // a bad escape, a control byte, or the end
-    Refused { number: u8, place: DocAt },
+    // its closing quote, and the cursor past it
+    Close(Cursor),
+    // one character or one escape
+    More(Quoted),
 }
 
-fn next_piece(s: &[u8], c: Cursor, out: &mut [u8]) -> Piece
+fn next_piece(s: &[u8], c: Cursor, out: &mut [u8]) -> Result<Piece, Refusal>
     requires { (length s.now ≤ max_document) × (length s.now - c.at.0 ≤ length out.old) }
     ensures { PieceIs s.now c.at.0 out.old out.new result }
 {
     let place = c.at;
     match c.step(s) {
-        Step::End => Piece::Refused {
+        Step::End => Err(Refusal {
             number: refusals::UNEXPECTED_END,
             place: DocAt(s.len()),
-        },
+        }),
         Step::Char { ch, next } => {
             if ch == bytes::QUOTE {
-                return Piece::Close { next };
+                return Ok(Piece::Close(next));
             }
             if ch < bytes::FIRST_PRINTABLE {
-                return Piece::Refused {
+                return Err(Refusal {
                     number: refusals::BAD_NUMBER_OR_STRING,
                     place,
-                };
+                });
             }
             if ch == bytes::BACKSLASH {
-                return match escape(s, next, place, out) {
-                    Quoted::Refused { number, place: bad } => Piece::Refused { number, place: bad },
-                    Quoted::Text { next: end, used } => Piece::More { next: end, used },
-                };
+                let text = escape(s, next, place, out)?;
+                return Ok(Piece::More(text));
             }
-            let past = next.at;
-            let used = copy(s, place, past, out);
-            Piece::More {
+            let used = copy(s, place, next.at, out);
+            Ok(Piece::More(Quoted {
                 next,
                 used: TextLen(used),
-            }
+            }))
         }
     }
 }
 
 // The text from behind the first quote on, up to the closing one: runs of ordinary characters, and a piece behind each.
-fn body(s: &[u8], c: Cursor, out: &mut [u8]) -> Quoted
+fn body(s: &[u8], c: Cursor, out: &mut [u8]) -> Result<Quoted, Refusal>
     requires { (length s.now ≤ max_document) × (c.at.0 ≤ length s.now) × (length s.now - c.at.0 ≤ length out.old) }
     ensures { BodyIs s.now c.at.0 out.old out.new result }
 {
@@ -74,39 +69,31 @@ fn body(s: &[u8], c: Cursor, out: &mut [u8]) -> Quoted
     let mut used: usize = 0;
     loop {
         let run = plain_end(s, at);
-        let from = at.at;
-        let to = run.at;
-        let n = copy(s, from, to, &mut out[used..]);
+        let n = copy(s, at.at, run.at, &mut out[used..]);
         used += n;
-        match next_piece(s, run, &mut out[used..]) {
-            Piece::Refused { number, place } => {
-                return Quoted::Refused { number, place };
-            }
-            Piece::Close { next } => {
-                return Quoted::Text {
+        match next_piece(s, run, &mut out[used..])? {
+            Piece::Close(next) => {
+                return Ok(Quoted {
                     next,
                     used: TextLen(used),
-                };
+                });
             }
-            Piece::More { next, used: more } => {
-                let m = more.0;
-                used += m;
-                at = next;
+            Piece::More(more) => {
+                used += more.used.0;
+                at = more.next;
             }
         }
     }
 }
 
 /// The string, quoted once or three times, whose first quote stands at the cursor. Its text is written to the start of `out`.
-pub fn read_quoted(s: &[u8], c: Cursor, out: &mut [u8]) -> Quoted
+pub fn read_quoted(s: &[u8], c: Cursor, out: &mut [u8]) -> Result<Quoted, Refusal>
     requires { (length s.now ≤ max_document) × (byte_at s.now c.at.0 ≡ 34) × (length s.now - c.at.0 ≤ length out.old) }
     ensures { QuotedIs s.now c.at.0 out.old out.new result }
 {
-    match three_quotes(s, c) {
-        Three::Past(open) => raw(s, open, out),
-        Three::Not => match expect(s, c, bytes::QUOTE, DocAt(0)) {
-            Expected::Found { next } => body(s, next, out),
-            Expected::Refused { number, place } => Quoted::Refused { number, place },
-        },
+    if let Some(open) = three_quotes(s, c) {
+        return raw(s, open, out);
     }
+    let first = expect(s, c, bytes::QUOTE, DocAt(0))?;
+    body(s, first, out)
 }

@@ -6,63 +6,45 @@ ghost use Rattle.text_strings.specs.Clauses.{ThreeIs, RunIs, AfterIs, RawIs};
 
 use codes::{bytes, refusals};
 use text_bytes::copy;
-use text_chars::{Cursor, DocAt, Step, TextLen};
-use text_escapes::{Expected, Quoted, expect};
+use text_chars::{Cursor, DocAt, Refusal, Step, TextLen};
+use text_escapes::{Quoted, expect};
 use text_runs::raw_end;
 
-// Whether three quotes stand at a cursor.
-#[derive(Clone, Copy)]
-pub enum Three {
-    // they do, and this is the cursor past them
-    Past(Cursor),
-    // fewer
-    Not,
-}
-
-pub fn three_quotes(s: &[u8], c: Cursor) -> Three
+/// The cursor past three quotes, if they stand at a cursor.
+pub fn three_quotes(s: &[u8], c: Cursor) -> Option<Cursor>
     requires { length s.now ≤ max_document }
     ensures { ThreeIs s.now c.at.0 result }
 {
-    match expect(s, c, bytes::QUOTE, DocAt(0)) {
-        Expected::Refused { number, place } => Three::Not,
-        Expected::Found { next: second } => match expect(s, second, bytes::QUOTE, DocAt(0)) {
-            Expected::Refused { number, place } => Three::Not,
-            Expected::Found { next: third } => match expect(s, third, bytes::QUOTE, DocAt(0)) {
-                Expected::Refused { number, place } => Three::Not,
-                Expected::Found { next } => Three::Past(next),
-            },
-        },
-    }
+    let Ok(second) = expect(s, c, bytes::QUOTE, DocAt(0)) else {
+        return None;
+    };
+    let Ok(third) = expect(s, second, bytes::QUOTE, DocAt(0)) else {
+        return None;
+    };
+    let Ok(next) = expect(s, third, bytes::QUOTE, DocAt(0)) else {
+        return None;
+    };
+    Some(next)
 }
 
-// The first run of three quotes or more.
-#[derive(Clone, Copy)]
-enum Run {
-    // where it begins
-    At(Cursor),
-    // there is none
-    Nowhere,
-}
-
-fn find_run(s: &[u8], c: Cursor) -> Run
+// Where the first run of three quotes or more begins, if there is one.
+fn find_run(s: &[u8], c: Cursor) -> Option<Cursor>
     requires { length s.now ≤ max_document }
     ensures { RunIs s.now c.at.0 result }
 {
     let mut at = c;
     loop {
         let quote = raw_end(s, at);
-        match three_quotes(s, quote) {
-            Three::Past(next) => {
-                return Run::At(quote);
+        if let Some(next) = three_quotes(s, quote) {
+            return Some(quote);
+        }
+        match quote.step(s) {
+            Step::End => {
+                return None;
             }
-            Three::Not => match quote.step(s) {
-                Step::End => {
-                    return Run::Nowhere;
-                }
-                Step::Char { ch, next } => {
-                    at = next;
-                }
-            },
+            Step::Char { ch, next } => {
+                at = next;
+            }
         }
     }
 }
@@ -73,38 +55,28 @@ fn after_quotes(s: &[u8], c: Cursor) -> Cursor
     ensures { AfterIs s.now c.at.0 result }
 {
     let mut at = c;
-    loop {
-        match expect(s, at, bytes::QUOTE, DocAt(0)) {
-            Expected::Refused { number, place } => {
-                return at;
-            }
-            Expected::Found { next } => {
-                at = next;
-            }
-        }
+    while let Ok(next) = expect(s, at, bytes::QUOTE, DocAt(0)) {
+        at = next;
     }
+    at
 }
 
 // The text from behind the first three quotes on, as it stands; of the closing run all but the last three quotes belong to it.
-pub fn raw(s: &[u8], c: Cursor, out: &mut [u8]) -> Quoted
+pub fn raw(s: &[u8], c: Cursor, out: &mut [u8]) -> Result<Quoted, Refusal>
     requires { (length s.now ≤ max_document) × (length s.now - c.at.0 ≤ length out.old) }
     ensures { RawIs s.now c.at.0 out.old out.new result }
 {
-    match find_run(s, c) {
-        Run::Nowhere => Quoted::Refused {
+    let Some(run) = find_run(s, c) else {
+        return Err(Refusal {
             number: refusals::UNEXPECTED_END,
             place: DocAt(s.len()),
-        },
-        Run::At(run) => {
-            let end = after_quotes(s, run);
-            let from = c.at;
-            let past = end.at;
-            let to = past.0 - 3;
-            let used = copy(s, from, DocAt(to), out);
-            Quoted::Text {
-                next: end,
-                used: TextLen(used),
-            }
-        }
-    }
+        });
+    };
+    let end = after_quotes(s, run);
+    let to = end.at.0 - 3;
+    let used = copy(s, c.at, DocAt(to), out);
+    Ok(Quoted {
+        next: end,
+        used: TextLen(used),
+    })
 }

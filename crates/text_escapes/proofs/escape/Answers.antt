@@ -1,3 +1,4 @@
+use Rattle.std.proofs.lemmas.Result.{err_from_is_err_and}
 use Rattle.text_escapes.proofs.Escaping.{escapes}
 use Rattle.text_escapes.proofs.escape.Goals as goal
 
@@ -7,17 +8,19 @@ bounds-out-0 c = search escapes
 pub encode-used-requires : goal.encode-used-requires
 encode-used-requires c = search escapes
 
-pub returns-in-Refused : goal.returns-in-Refused
-returns-in-Refused c = search escapes
-
-pub returns-in-Is : goal.returns-in-Is
-returns-in-Is c = search escapes
-
 pub returns-in-End : goal.returns-in-End
 returns-in-End c = search escapes
 
-pub returns-in-Byte : goal.returns-in-Byte
-returns-in-Byte c = search escapes
+pub returns-in-Some : goal.returns-in-Some
+returns-in-Some c = search escapes
+
+pub returns-in_err-point-in-Char : goal.returns-in_err-point-in-Char
+returns-in_err-point-in-Char c =
+    let p = err_from_is_err_and c.from_residual.result c.from_residual.ensures.1 in
+    rw (p.1, p.2) (search (escapes, c.in_err-point-in-Char.was))
+
+pub returns-then-ch-eq-U : goal.returns-then-ch-eq-U
+returns-then-ch-eq-U c = search (escapes, c.in_ok-point-in-Char.was)
 
 pub returns-else-ch-eq-U : goal.returns-else-ch-eq-U
 returns-else-ch-eq-U c = search escapes

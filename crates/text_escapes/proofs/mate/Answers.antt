@@ -7,14 +7,14 @@ pair-requires c = search mates
 pub returns-then-is_low : goal.returns-then-is_low
 returns-then-is_low c = search mates
 
-pub returns-in-Refused : goal.returns-in-Refused
-returns-in-Refused c = search mates
+pub returns-in_err-letter : goal.returns-in_err-letter
+returns-in_err-letter c = search mates
 
-pub returns-in-Refused-expect : goal.returns-in-Refused-expect
-returns-in-Refused-expect c = search mates
+pub returns-in_err-digits : goal.returns-in_err-digits
+returns-in_err-digits c = search mates
 
-pub returns-in-Refused-hex_four : goal.returns-in-Refused-hex_four
-returns-in-Refused-hex_four c = search mates
+pub returns-in_err-low : goal.returns-in_err-low
+returns-in_err-low c = search mates
 
-pub returns-else-is_low : goal.returns-else-is_low
-returns-else-is_low c = search mates
+pub returns : goal.returns
+returns c = search (mates, c.in_ok-letter.was, c.in_ok-digits.was, c.in_ok-low.was)

@@ -1,3 +1,4 @@
+use Rattle.std.proofs.lemmas.Result.{err_from_is_err_and}
 use Rattle.text_strings.proofs.Pieces.{pieces}
 use Rattle.text_strings.proofs.next_piece.Goals as goal
 
@@ -10,11 +11,13 @@ returns-then-ch-lt-FIRST_PRINTABLE c = search pieces
 pub escape-requires : goal.escape-requires
 escape-requires c = search pieces
 
-pub returns-in-Refused : goal.returns-in-Refused
-returns-in-Refused c = search pieces
+pub returns-in_err-text-in-Char : goal.returns-in_err-text-in-Char
+returns-in_err-text-in-Char c =
+    let p = err_from_is_err_and c.from_residual.result c.from_residual.ensures.1 in
+    rw (p.1, p.2) (search (pieces, c.in_err-text-in-Char.was))
 
-pub returns-in-Text : goal.returns-in-Text
-returns-in-Text c = search pieces
+pub returns-then-ch-eq-BACKSLASH : goal.returns-then-ch-eq-BACKSLASH
+returns-then-ch-eq-BACKSLASH c = search (pieces, c.in_ok-text-in-Char.was)
 
 pub copy-used-requires : goal.copy-used-requires
 copy-used-requires c = search pieces

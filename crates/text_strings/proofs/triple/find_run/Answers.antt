@@ -4,8 +4,8 @@ use Rattle.text_strings.proofs.triple.find_run.Goals as goal
 pub loop-next-init : goal.loop-next-init
 loop-next-init c = search runs
 
-pub returns-in-Past : goal.returns-in-Past
-returns-in-Past c = search runs
+pub returns-in-Some : goal.returns-in-Some
+returns-in-Some c = search runs
 
 pub returns-in-End : goal.returns-in-End
 returns-in-End c = search runs

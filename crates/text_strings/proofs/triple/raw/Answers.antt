@@ -10,8 +10,8 @@ overflow_sub-to c = search raws
 pub copy-used-requires : goal.copy-used-requires
 copy-used-requires c = search raws
 
-pub returns-in-Nowhere : goal.returns-in-Nowhere
-returns-in-Nowhere c = search raws
+pub returns-in_default : goal.returns-in_default
+returns-in_default c = search raws
 
-pub returns-in-At : goal.returns-in-At
-returns-in-At c = search raws
+pub returns : goal.returns
+returns c = search raws
