@@ -13,6 +13,7 @@ use Rattle.text_chars.specs.Cursor.{doc, StepIs}
 use Rattle.text_chars.specs.Seen.{Seen, seen, at-end, seen-eq, seen-ne, same_seen}
 use Rattle.text_chars.specs.declared.DocAt.{DocAt}
 use Rattle.text_chars.specs.declared.Cursor.{Cursor}
+use Rattle.std.specs.Prelude.{Some, None, Option as Maybe}
 use Rattle.text_chars.specs.declared.Step.{Step}
 use Rattle.text_escapes.specs.Clauses.{LetterIs, ExpectIs}
 use Rattle.text_escapes.specs.declared.Expected.{Expected}
@@ -20,20 +21,20 @@ use Rattle.text_escapes.specs.declared.Letter.{Letter}
 
 -- ---- one certain character
 
-module _ {s : List ℕ} {at b : ℕ} {r : Step} (h : StepIs s at r) where
-  pub expect-end : {first : ℕ} → r ≡ Step.End → ExpectIs b s first at (Expected.Refused 4 (doc (length s)))
+module _ {s : List ℕ} {at b : ℕ} {r : Maybe Step} (h : StepIs s at r) where
+  pub expect-end : {first : ℕ} → r ≡ None → ExpectIs b s first at (Expected.Refused 4 (doc (length s)))
   unfolding expect
   expect-end e = record { is = rw (le-leb (length s) at (at-end h e), expect); far = tt }
 
-  module _ {ch : ℕ} {c : Cursor} (l : b < 128) (e : r ≡ Step.Char ch c) where
-    pub expect-found : {first : ℕ} → ch ≡ b → ExpectIs b s first at (Expected.Found c)
+  module _ {t : Step} (l : b < 128) (e : r ≡ Some t) where
+    pub expect-found : {first : ℕ} → t.ch ≡ b → ExpectIs b s first at (Expected.Found t.next)
     unfolding expect
     expect-found i =
         let z = seen h e in
-        let o : c.at.0 ≡ at + 1 = z.one (omega arith) in
+        let o : t.next.at.0 ≡ at + 1 = z.one (omega arith) in
         record { is = rw (lt-leb (length s) at z.within, seen-eq z b l i, expect) (ap (ok b) (sym o)); far = (o, z.inside) }
 
-    pub expect-other : {first : DocAt} → (ch ≡ b → ⊥) → ExpectIs b s first.0 at (Expected.Refused 5 first)
+    pub expect-other : {first : DocAt} → (t.ch ≡ b → ⊥) → ExpectIs b s first.0 at (Expected.Refused 5 first)
     unfolding expect
     expect-other n = let z = seen h e in record { is = rw (lt-leb (length s) at z.within, seen-ne z b l n, expect); far = tt }
 

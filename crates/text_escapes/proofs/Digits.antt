@@ -19,6 +19,7 @@ use Rattle.text_chars.specs.Seen.{Seen, seen, at-end, same_seen}
 use Rattle.text_chars.specs.Clash.{clash}
 use Rattle.text_chars.specs.declared.DocAt.{DocAt}
 use Rattle.text_chars.specs.declared.Cursor.{Cursor}
+use Rattle.std.specs.Prelude.{Some, None, Option as Maybe}
 use Rattle.text_chars.specs.declared.Step.{Step}
 use Rattle.text_escapes.specs.Units.{hex_of, HexIs, UnitIs}
 use Rattle.text_escapes.specs.Ranges.{in-range, below-range, above-range}
@@ -120,24 +121,24 @@ module _ {s : List ℕ} {first at₀ at unit left : ℕ} (I : HexLoop s first at
     turn : hex_from 4 s first 0 at₀ ≡ hex_from (suc (left - 1)) s first unit at
     turn = I.is ∙ ap (λ (n : ℕ). hex_from n s first unit at) left_is
 
-    module _ {r : Step} (h : StepIs s at r) where
-      pub digits-cut : r ≡ Step.End → UnitIs s first at₀ (CodeUnit.Refused 4 (doc (length s)))
+    module _ {r : Maybe Step} (h : StepIs s at r) where
+      pub digits-cut : r ≡ None → UnitIs s first at₀ (CodeUnit.Refused 4 (doc (length s)))
       unfolding hex_from
       digits-cut e = record { is = turn ∙ rw (le-leb (length s) at (at-end h e), hex_from); far = tt }
 
-      module _ {ch : ℕ} {c : Cursor} (e : r ≡ Step.Char ch c) {q : Hex} (k : HexIs ch q) where
+      module _ {t : Step} (e : r ≡ Some t) {q : Hex} (k : HexIs t.ch q) where
         bad : q ≡ Hex.Not → hex_from 4 s first 0 at₀ ≡ refused (placed 5 first)
         unfolding hex_from
         bad i =
             let z = seen h e in
-            turn ∙ rw (lt-leb (length s) at z.within, digit-seen z ∙ hex-no (hex_digit ch) (sym k.is ∙ i), hex_from)
+            turn ∙ rw (lt-leb (length s) at z.within, digit-seen z ∙ hex-no (hex_digit t.ch) (sym k.is ∙ i), hex_from)
 
         pub digits-bad : {place : DocAt} → place.0 ≡ first → q ≡ Hex.Not → UnitIs s first at₀ (CodeUnit.Refused 5 place)
         digits-bad {place} f i = record { is = bad i ∙ ap (λ (n : ℕ). refused (placed 5 n)) (sym f); far = tt }
 
         module _ {d : ℕ} (i : q ≡ Hex.Digit d) where
-          digit : hex_digit ch ≡ some d
-          digit = hex-some (hex_digit ch) (sym k.is ∙ i)
+          digit : hex_digit t.ch ≡ some d
+          digit = hex-some (hex_digit t.ch) (sym k.is ∙ i)
 
           below : d < 16
           below = rw i at k.small
@@ -152,11 +153,11 @@ module _ {s : List ℕ} {first at₀ at unit left : ℕ} (I : HexLoop s first at
               ∙ sym (mul_assoc (unit + 1) 16 (16 ^ (left - 1))) in
               le_trans (mul-le-mul_right (16 ^ (left - 1)) m) (omega (arith, I.low, p))
 
-          pub digits-turn : HexLoop s first at₀ c.at.0 (unit * 16 + d) (left - 1)
+          pub digits-turn : HexLoop s first at₀ t.next.at.0 (unit * 16 + d) (left - 1)
           unfolding hex_from
           digits-turn =
               let z = seen h e in
-              let o : c.at.0 ≡ at + 1 = z.one (digit-ascii digit) in
+              let o : t.next.at.0 ≡ at + 1 = z.one (digit-ascii digit) in
               record {
                 is = turn ∙ rw (lt-leb (length s) at z.within, digit-seen z ∙ digit, hex_from, o);
                 gone = omega (arith, I.gone);

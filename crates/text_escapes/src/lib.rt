@@ -39,11 +39,11 @@ pub fn expect(s: &[u8], c: Cursor, ch: u32, first: DocAt) -> Expected
     ensures { ExpectIs ch s.now first.0 c.at.0 result }
 {
     match c.step(s) {
-        Step::End => Expected::Refused {
+        None => Expected::Refused {
             number: refusals::UNEXPECTED_END,
             place: DocAt(s.len()),
         },
-        Step::Char { ch: here, next } => {
+        Some(Step { ch: here, next }) => {
             if here == ch {
                 Expected::Found { next }
             } else {
@@ -165,11 +165,11 @@ pub fn escape(s: &[u8], c: Cursor, first: DocAt, out: &mut [u8]) -> Quoted
     ensures { EscapeIs s.now first.0 out.old out.new result }
 {
     match c.step(s) {
-        Step::End => Quoted::Refused {
+        None => Quoted::Refused {
             number: refusals::UNEXPECTED_END,
             place: DocAt(s.len()),
         },
-        Step::Char { ch, next } => match letter_escape(ch) {
+        Some(Step { ch, next }) => match letter_escape(ch) {
             Letter::Byte(b) => {
                 out[0] = b;
                 Quoted::Text {

@@ -77,13 +77,13 @@ pub fn hex_four(s: &[u8], c: Cursor, first: DocAt) -> Unit
     let mut left: usize = 4;
     while 0 < left {
         match at.step(s) {
-            Step::End => {
+            None => {
                 return Unit::Refused {
                     number: refusals::UNEXPECTED_END,
                     place: DocAt(s.len()),
                 };
             }
-            Step::Char { ch, next } => match hex_digit(ch) {
+            Some(Step { ch, next }) => match hex_digit(ch) {
                 Hex::Not => {
                     return Unit::Refused {
                         number: refusals::BAD_NUMBER_OR_STRING,

@@ -27,7 +27,7 @@ use Rattle.text_chars.specs.declared.Cursor.{Cursor}
 use Rattle.text_scan.specs.Scan.{SeenIs, EndIs}
 use Rattle.text_numbers.specs.Clauses.{NumberIs}
 use Rattle.text_unquoted.specs.Clauses.{Says, WordIs}
-use Rattle.text_scan.specs.declared.Seen.{Seen}
+use Rattle.text_chars.specs.declared.Step.{Step}
 use Rattle.text_numbers.specs.declared.Number.{Number}
 use Rattle.text_unquoted.specs.declared.Word.{Word}
 use Rattle.text_escapes.specs.Clauses.{Decoded, quoted_of}
@@ -67,7 +67,7 @@ same_start s at = go (starts_number (byte_at s at)) (starts_number (character_at
         let e : byte_at s at ≡ character_at s at = ascii-byte s at (number-low (character_at s at) q) in
         sym p ∙ rw e q
 
-module _ {s : List ℕ} {at : ℕ} {seen : Seen} (h : SeenIs s at seen) where
+module _ {s : List ℕ} {at : ℕ} {seen : Step} (h : SeenIs s at seen) where
   no-quote : (seen.ch ≡ 34 → ⊥) → byte_at s at ≡ 34 → ⊥
   no-quote n e = n (h.is ∙ ascii-character s at (omega arith) ∙ e)
 

@@ -18,6 +18,7 @@ use Rattle.text_chars.specs.Cursor.{doc, StepIs}
 use Rattle.text_chars.specs.Seen.{seen, at-end}
 use Rattle.text_chars.specs.declared.DocAt.{DocAt}
 use Rattle.text_chars.specs.declared.Cursor.{Cursor}
+use Rattle.std.specs.Prelude.{Some, None, Option as Maybe}
 use Rattle.text_chars.specs.declared.Step.{Step}
 use Rattle.text_escapes.specs.Clauses.{expect_scan, ExpectFar, ExpectIs}
 use Rattle.text_runs.specs.Clauses.{Passed, none, on, RawRunIs}
@@ -127,23 +128,23 @@ module _ {s : List ℕ} {at₀ at : ℕ} (before : RunLoop s at₀ at) {c : Curs
       let off : (ltb c.at.0 (length s) && not (three_quotes s c.at.0)) ≡ false = rw (lt-ltb c.at.0 (length s) i, z.0) in
       record { says = (sym (I.is ∙ run-off s c.at.0 off), z.0, I.low, i) }
 
-  module _ (f : q ≡ Three.Not) {t : Step} (k : StepIs s c.at.0 t) where
-    pub run_end : t ≡ Step.End → RunIs s at₀ Run.Nowhere
+  module _ (f : q ≡ Three.Not) {m : Maybe Step} (k : StepIs s c.at.0 m) where
+    pub run_end : m ≡ None → RunIs s at₀ Run.Nowhere
     run_end e =
         let p : length s ≤ c.at.0 = at-end k e in
         let off : (ltb c.at.0 (length s) && not (three_quotes s c.at.0)) ≡ false = rw (le-ltb c.at.0 (length s) p) in
         record { says = rw (I.is ∙ run-off s c.at.0 off) p }
 
-    pub run-turn : {ch : ℕ} {d : Cursor} → t ≡ Step.Char ch d → RunLoop s at₀ d.at.0
-    run-turn {ch} {d} e =
+    pub run-turn : {t : Step} → m ≡ Some t → RunLoop s at₀ t.next.at.0
+    run-turn {t} e =
         let z = seen k e in
         let no : ThreeSays s c.at.0 Three.Not = rw f at h.says in
         let on : (ltb c.at.0 (length s) && not (three_quotes s c.at.0)) ≡ true = rw (lt-ltb c.at.0 (length s) z.within, no) in
         record { is = I.is ∙ run_on s c.at.0 on ∙ ap (quotes_run s) (sym z.past); low = omega (arith, I.low, z.forward) }
 
-pub step_less : (s : List ℕ) (at : ℕ) {c : Cursor} {t : Step} {ch : ℕ} {d : Cursor} → RawRunIs s at c → StepIs s c.at.0 t → t ≡ Step.Char ch d
-    → length s - d.at.0 < length s - at
-step_less s at r k e = let z = seen k e in omega (arith, r.forward, z.within, z.forward)
+pub step_less : (s : List ℕ) (at : ℕ) {c : Cursor} {r : Maybe Step} {t : Step} → RawRunIs s at c → StepIs s c.at.0 r → r ≡ Some t
+    → length s - t.next.at.0 < length s - at
+step_less s at j k e = let z = seen k e in omega (arith, j.forward, z.within, z.forward)
 
 pub ruleset runs = (run-start, run-found, run_end, run-turn, step_less)
 

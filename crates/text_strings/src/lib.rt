@@ -35,11 +35,11 @@ fn next_piece(s: &[u8], c: Cursor, out: &mut [u8]) -> Piece
 {
     let place = c.at;
     match c.step(s) {
-        Step::End => Piece::Refused {
+        None => Piece::Refused {
             number: refusals::UNEXPECTED_END,
             place: DocAt(s.len()),
         },
-        Step::Char { ch, next } => {
+        Some(Step { ch, next }) => {
             if ch == bytes::QUOTE {
                 return Piece::Close { next };
             }

@@ -56,10 +56,10 @@ fn find_run(s: &[u8], c: Cursor) -> Run
                 return Run::At(quote);
             }
             Three::Not => match quote.step(s) {
-                Step::End => {
+                None => {
                     return Run::Nowhere;
                 }
-                Step::Char { ch, next } => {
+                Some(Step { ch, next }) => {
                     at = next;
                 }
             },

@@ -13,8 +13,8 @@ returns-in-Refused c = search escapes
 pub returns-in-Is : goal.returns-in-Is
 returns-in-Is c = search escapes
 
-pub returns-in-End : goal.returns-in-End
-returns-in-End c = search escapes
+pub returns-in-None : goal.returns-in-None
+returns-in-None c = search escapes
 
 pub returns-in-Byte : goal.returns-in-Byte
 returns-in-Byte c = search escapes

@@ -19,8 +19,8 @@ returns-in-Text c = search pieces
 pub copy-used-requires : goal.copy-used-requires
 copy-used-requires c = search pieces
 
-pub returns-in-End : goal.returns-in-End
-returns-in-End c = search pieces
+pub returns-in-None : goal.returns-in-None
+returns-in-None c = search pieces
 
 pub returns-else-ch-eq-BACKSLASH : goal.returns-else-ch-eq-BACKSLASH
 returns-else-ch-eq-BACKSLASH c = search pieces

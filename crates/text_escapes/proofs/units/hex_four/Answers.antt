@@ -4,8 +4,8 @@ use Rattle.text_escapes.proofs.units.hex_four.Goals as goal
 pub loop-left-init : goal.loop-left-init
 loop-left-init c = search digits
 
-pub returns-in-End : goal.returns-in-End
-returns-in-End c = search digits
+pub returns-in-None : goal.returns-in-None
+returns-in-None c = search digits
 
 pub returns-in-Not : goal.returns-in-Not
 returns-in-Not c = search digits

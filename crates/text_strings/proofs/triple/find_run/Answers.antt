@@ -7,8 +7,8 @@ loop-next-init c = search runs
 pub returns-in-Past : goal.returns-in-Past
 returns-in-Past c = search runs
 
-pub returns-in-End : goal.returns-in-End
-returns-in-End c = search runs
+pub returns-in-None : goal.returns-in-None
+returns-in-None c = search runs
 
 pub loop-next-smaller : goal.loop-next-smaller
 loop-next-smaller c = search runs
