@@ -21,7 +21,7 @@ use Rattle.text_chars.specs.Cursor.{doc, ill_at}
 use Rattle.text_chars.specs.declared.DocAt.{DocAt}
 use Rattle.text_chars.specs.declared.RecAt.{RecAt}
 use Rattle.text_chars.specs.declared.RecLen.{RecLen}
-use Rattle.text_chars.specs.declared.Ill.{Ill}
+use Rattle.std.specs.Prelude.{Some, None, Option as Maybe}
 use Rattle.text_elements.specs.Marks.Holding.{Held}
 use Rattle.text_paths.specs.Texts.{PathIs, HeldTexts, read_of}
 use Rattle.text_paths.specs.declared.PathRead.{PathRead}
@@ -94,21 +94,21 @@ module _ (table text path : List ℕ) where
     unfolding J.not_found
     not-whole e = sym (look-up-not-whole table text path short short-text short-path (sym j ∙ e))
 
-    module _ (e : w ≡ true) {i : Ill} (g : i ≡ ill_at (ill_formed path)) where
-      ill-some : (o : Option ℕ) (place : DocAt) → Ill.At place ≡ ill_at o → o ≡ some place.0
+    module _ (e : w ≡ true) {i : Maybe DocAt} (g : i ≡ ill_at (ill_formed path)) where
+      ill-some : (o : Option ℕ) (place : DocAt) → Some place ≡ ill_at o → o ≡ some place.0
       ill-some none place z = clash (cc)
       ill-some (some q) place z = let d : place ≡ doc q = cc in ap (λ (x : DocAt). some x.0) (sym d)
 
-      ill-none : (o : Option ℕ) → Ill.Nowhere ≡ ill_at o → o ≡ none
+      ill-none : (o : Option ℕ) → None ≡ ill_at o → o ≡ none
       ill-none none z = refl
       ill-none (some q) z = clash (cc)
 
-      pub not-utf8 : {place : DocAt} → i ≡ Ill.At place → job_of (Found.Refused 2 place) ≡ J.look_up_job table text path
+      pub not-utf8 : {place : DocAt} → i ≡ Some place → job_of (Found.Refused 2 place) ≡ J.look_up_job table text path
       unfolding J.not_found
       not-utf8 {place} z =
           sym (look-up-ill-formed table text path short short-text short-path (sym j ∙ e) place.0 (ill-some (ill_formed path) place (sym z ∙ g)))
 
-      pub looked : (f : Found) → i ≡ Ill.Nowhere → job_of f ≡ J.looked_up table text (path_text path) → job_of f ≡ J.look_up_job table text path
+      pub looked : (f : Found) → i ≡ None → job_of f ≡ J.looked_up table text (path_text path) → job_of f ≡ J.look_up_job table text path
       unfolding J.look_up_job
       looked f z m =
           let n : ill_formed path ≡ none = ill-none (ill_formed path) (sym z ∙ g) in

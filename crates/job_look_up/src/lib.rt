@@ -10,7 +10,7 @@ ghost use Rattle.sheet_paths.specs.Answers.{job_of, part_of};
 
 use codes::{limits, refusals};
 use sheet_paths::Found;
-use text_chars::{DocAt, Ill, TextLen};
+use text_chars::{DocAt, TextLen};
 use text_paths::PathRead;
 
 // What the path of a path text names. It is read into buffers of this function's own.
@@ -52,11 +52,11 @@ pub fn look_up_answer(table: &[u8], text: &[u8], path: &[u8]) -> Found
     }
     if sheet_records::is_whole(table, TextLen(text.len())) {
         match text_chars::ill_formed(path) {
-            Ill::At(place) => Found::Refused {
+            Some(place) => Found::Refused {
                 number: refusals::ILL_FORMED_UTF8,
                 place,
             },
-            Ill::Nowhere => look_up_path(table, text, path),
+            None => look_up_path(table, text, path),
         }
     } else {
         Found::Refused {

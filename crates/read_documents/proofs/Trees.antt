@@ -11,7 +11,7 @@ use Rattle.rules.specs.Documents.{read_tree}
 use Rattle.text_chars.specs.Cursor.{ill_at, doc}
 use Rattle.text_chars.specs.declared.DocAt.{DocAt}
 use Rattle.text_chars.specs.declared.Cursor.{Cursor}
-use Rattle.text_chars.specs.declared.Ill.{Ill}
+use Rattle.std.specs.Prelude.{Some, None, Option as Maybe}
 use Rattle.read_grammar.specs.Limits.Limits.{nesting_of}
 use Rattle.read_values.specs.declared.pieces.Listed.{Listed}
 use Rattle.read_documents.specs.Trees.{Rooted, RootIs, tree_told, read_told, TreeAs, TreeIs}
@@ -19,14 +19,14 @@ use Rattle.read_documents.specs.declared.Counters.{Counters}
 use Rattle.read_documents.specs.declared.Tree.{Tree}
 
 module _ (s : List ℕ) (nesting items : ℕ) where
-  ill-at : (o : Option ℕ) → ill_formed s ≡ o → {p : DocAt} → Ill.At p ≡ ill_at o → read_tree s nesting items ≡ refused (placed 2 p.0)
+  ill-at : (o : Option ℕ) → ill_formed s ≡ o → {p : DocAt} → Some p ≡ ill_at o → read_tree s nesting items ≡ refused (placed 2 p.0)
   unfolding read_tree
   ill-at none e {p} q = clash (cc (q))
   ill-at (some at) e {p} q =
       let g : p ≡ doc at = cc (q) in
       rw (e, read_tree) (ap (λ (x : DocAt). refused (placed 2 x.0)) (sym g))
 
-  formed-at : (o : Option ℕ) → ill_formed s ≡ o → Ill.Nowhere ≡ ill_at o → read_tree s nesting items ≡ read_root s nesting items
+  formed-at : (o : Option ℕ) → ill_formed s ≡ o → None ≡ ill_at o → read_tree s nesting items ≡ read_root s nesting items
   unfolding read_tree
   formed-at none e q = rw (e, read_tree)
   formed-at (some at) e q = clash (cc (q))
@@ -37,14 +37,14 @@ told : (s : List ℕ) (c : Counters) (x t : List ℕ) (r : Tree) → TreeAs s c 
 told s c x t (Tree.Done d) u = rw (u.2, u.3) refl
 told s c x t (Tree.Refused k p) u = rw (u.1, u.2, u.3) refl
 
-module _ {s table text : List ℕ} {c : Counters} {i : Ill} (f : i ≡ ill_at (ill_formed s)) where
-  pub tree-ill : {p : DocAt} → i ≡ Ill.At p → TreeIs s c table text table text (Tree.Refused 2 p)
+module _ {s table text : List ℕ} {c : Counters} {i : Maybe DocAt} (f : i ≡ ill_at (ill_formed s)) where
+  pub tree-ill : {p : DocAt} → i ≡ Some p → TreeIs s c table text table text (Tree.Refused 2 p)
   tree-ill {p} e =
       let u : TreeAs s c table text (Tree.Refused 2 p) =
       (placed 2 p.0, ill-at s (nesting_of c.left) c.items (ill_formed s) refl (sym e ∙ f), refl, refl) in
       record { answer = told s c table text (Tree.Refused 2 p) u; is = u; kept_table = refl; kept-text = refl }
 
-  module _ (e : i ≡ Ill.Nowhere) {x t : List ℕ} {r : Listed} (m : RootIs s c.left c.items table text x t r) where
+  module _ (e : i ≡ None) {x t : List ℕ} {r : Listed} (m : RootIs s c.left c.items table text x t r) where
     formed : read_tree s (nesting_of c.left) c.items ≡ read_root s (nesting_of c.left) c.items
     formed = formed-at s (nesting_of c.left) c.items (ill_formed s) refl (sym e ∙ f)
 

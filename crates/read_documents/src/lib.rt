@@ -16,7 +16,7 @@ use doc_items::{Item, WIDTH};
 use read_grammar::roots::{Ending, Opening};
 use read_numbering::Count;
 use read_values::pieces::Listed;
-use text_chars::{DocAt, Ill, TextAt, TextLen, ill_formed};
+use text_chars::{DocAt, TextAt, TextLen, ill_formed};
 
 // ---- the tree
 
@@ -109,11 +109,11 @@ fn read_tree(s: &[u8], counters: Counters, table: &mut [u16], text: &mut [u8]) -
         table.old text.old table.new text.new result }
 {
     match ill_formed(s) {
-        Ill::At(place) => Tree::Refused {
+        Some(place) => Tree::Refused {
             number: refusals::ILL_FORMED_UTF8,
             place,
         },
-        Ill::Nowhere => {
+        None => {
             let left = counters.left;
             match root(s, left, counters.items, table, text) {
                 Listed::Refused { number, place } => Tree::Refused { number, place },

@@ -12,7 +12,7 @@ use Rattle.theory_text.specs.Places.{byte_past, byte_inside}
 use Rattle.theory_text.specs.Ascii.{ascii-next}
 use Rattle.text_chars.specs.Cursor.{ByteIs}
 use Rattle.text_scan.specs.Scan.{SeenIs}
-use Rattle.text_scan.specs.declared.Seen.{Seen}
+use Rattle.text_chars.specs.declared.Step.{Step}
 
 module _ {s : List ℕ} {at b : ℕ} (k : ByteIs s at b) where
   pub is_byte : (n : ℕ) → b ≡ n → eqb (byte_at s at) n ≡ true
@@ -40,6 +40,6 @@ module _ {s : List ℕ} {at b : ℕ} (k : ByteIs s at b) where
       go false u = absurd (n (k.is ∙ byte_past s at (ltb-false at (length s) u)))
 
 -- the cursor past an ASCII byte
-pub one_on : {s : List ℕ} {at : ℕ} {r : Seen} → SeenIs s at r → byte_at s at < 128 → r.next.at.0 ≡ at + 1
+pub one_on : {s : List ℕ} {at : ℕ} {r : Step} → SeenIs s at r → byte_at s at < 128 → r.next.at.0 ≡ at + 1
 one_on {s} {at} k h =
     k.next ∙ ascii-next s at (byte_inside s at (byte_at s at) (omega arith) (eq-eqb (byte_at s at) (byte_at s at) refl)) h

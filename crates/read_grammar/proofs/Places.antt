@@ -12,7 +12,7 @@ use Rattle.rules.specs.Reading.{parted, value_place}
 use Rattle.text_chars.specs.Cursor.{ByteIs}
 use Rattle.text_chars.specs.declared.Cursor.{Cursor}
 use Rattle.text_scan.specs.Scan.{SeenIs, EndIs, GapIs}
-use Rattle.text_scan.specs.declared.Seen.{Seen}
+use Rattle.text_chars.specs.declared.Step.{Step}
 use Rattle.text_scan.specs.declared.Gap.{Gap}
 use Rattle.read_grammar.specs.Decisions.{PlaceIs, NotAllowedIs}
 use Rattle.read_grammar.specs.declared.Place.{Place}
@@ -20,7 +20,7 @@ use Rattle.read_grammar.proofs.Bytes.{is_byte, not_byte, one_on}
 
 -- ---- behind a byte
 
-pub behind-end : {s : List ℕ} {at : ℕ} {r : Seen} {g : Gap} → SeenIs s at r → byte_at s at < 128 → GapIs s r.next.at.0 g
+pub behind-end : {s : List ℕ} {at : ℕ} {r : Step} {g : Gap} → SeenIs s at r → byte_at s at < 128 → GapIs s r.next.at.0 g
     → EndIs s at (after_gap s (at + 1)) g.next
 behind-end {s} {at} {r} {g} k h j =
     record { is = j.is ∙ ap (after_gap s) (one_on k h); forward = omega (arith, k.forward, j.forward); inside = j.inside }

@@ -14,7 +14,7 @@ use Rattle.rules.specs.Reading.{start_of, after_closing}
 use Rattle.theory.specs.Scanning.{simple-inside}
 use Rattle.text_chars.specs.Cursor.{ByteIs}
 use Rattle.text_scan.specs.Scan.{SeenIs}
-use Rattle.text_scan.specs.declared.Seen.{Seen}
+use Rattle.text_chars.specs.declared.Step.{Step}
 use Rattle.read_grammar.specs.Decisions.{StartIs, NotAllowedIs, closes, TurnIs}
 use Rattle.read_grammar.specs.declared.Start.{Start}
 use Rattle.read_grammar.specs.declared.Turn.{Turn}
@@ -23,7 +23,7 @@ use Rattle.read_grammar.proofs.Bytes.{is_byte, not_byte, byte-within, byte-end, 
 -- ---- what begins at a place
 
 module _ {s : List ℕ} {at b : ℕ} (k : ByteIs s at b) where
-  module _ {r : Seen} (h : SeenIs s at r) where
+  module _ {r : Step} (h : SeenIs s at r) where
     pub start-brace : b ≡ 123 → StartIs s at (Start.Brace r.next)
     unfolding start_of
     start-brace e =
@@ -108,7 +108,7 @@ unfolding after_closing
 after-byte n at h = rw (ne_eqb n 256 (λ e. omega arith), after_closing)
 
 module _ {s : List ℕ} {at b closing : ℕ} (k : ByteIs s at b) (l : at ≤ length s) where
-  pub turn-close : {r : Seen} → closes closing ≡ true → b ≡ closing → SeenIs s at r → TurnIs closing s at (Turn.Close r.next)
+  pub turn-close : {r : Step} → closes closing ≡ true → b ≡ closing → SeenIs s at r → TurnIs closing s at (Turn.Close r.next)
   turn-close {r} o e h = record { is = (is_byte k closing e, past, h.forward, h.inside) }
     where
       past : r.next.at.0 ≡ after_closing closing at

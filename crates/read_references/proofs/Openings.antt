@@ -13,7 +13,7 @@ use Rattle.rules.specs.Paths.{braced, substitution_at}
 use Rattle.theory_text.specs.Ascii.{ascii-character, ascii-byte, ascii-next}
 use Rattle.text_chars.specs.declared.Cursor.{Cursor}
 use Rattle.text_scan.specs.Scan.{SeenIs, EndIs}
-use Rattle.text_scan.specs.declared.Seen.{Seen}
+use Rattle.text_chars.specs.declared.Step.{Step}
 use Rattle.read_references.specs.References.{OpenedAsked, OpenedIs}
 
 -- a byte stands inside the text
@@ -25,10 +25,10 @@ byte_inside s at h = go (ltb at (length s)) refl
     go false e = let z : byte_at s at ≡ 256 = get_or-eq_default s 256 (ltb-false at (length s) e) in absurd (omega arith)
 
 -- the place after an ASCII byte
-past_ascii : {s : List ℕ} {at : ℕ} {r : Seen} → SeenIs s at r → (b : ℕ) → b < 128 → byte_at s at ≡ b → r.next.at.0 ≡ at + 1
+past_ascii : {s : List ℕ} {at : ℕ} {r : Step} → SeenIs s at r → (b : ℕ) → b < 128 → byte_at s at ≡ b → r.next.at.0 ≡ at + 1
 past_ascii {s} {at} k b l e = k.next ∙ ascii-next s at (byte_inside s at (omega arith)) (omega arith)
 
-module _ {s : List ℕ} {at : ℕ} (a : OpenedAsked s at) {d b e : Seen} (h : SeenIs s at d) (i : SeenIs s d.next.at.0 b)
+module _ {s : List ℕ} {at : ℕ} (a : OpenedAsked s at) {d b e : Step} (h : SeenIs s at d) (i : SeenIs s d.next.at.0 b)
     (j : SeenIs s b.next.at.0 e) where
   third : b.next.at.0 ≡ at + 2
   third =

@@ -16,7 +16,7 @@ use Rattle.text_chars.specs.declared.DocAt.{DocAt}
 use Rattle.text_chars.specs.declared.TextLen.{TextLen}
 use Rattle.text_chars.specs.declared.Cursor.{Cursor}
 use Rattle.text_scan.specs.Scan.{SeenIs}
-use Rattle.text_scan.specs.declared.Seen.{Seen}
+use Rattle.text_chars.specs.declared.Step.{Step}
 use Rattle.read_grammar.specs.Decisions.{NotAllowedIs}
 use Rattle.text_elements.specs.Marks.Marks.{marks_room, end_of}
 use Rattle.text_elements.specs.Marks.Judging.{JudgeIs}
@@ -36,7 +36,7 @@ use Rattle.read_references.proofs.Held.{texts-length, held-texts, held-last, hel
 
 -- ---- the last byte
 
-module _ {s : List ℕ} {c : Cursor} {count : ℕ} {empty : Bool} {dollar : DocAt} {marks : List ℕ} {here : Seen} (h : SeenIs s c.at.0 here) where
+module _ {s : List ℕ} {c : Cursor} {count : ℕ} {empty : Bool} {dollar : DocAt} {marks : List ℕ} {here : Step} (h : SeenIs s c.at.0 here) where
   module _ (e : here.ch ≡ 125) {v : Verdict} (k : JudgeIs count empty dollar.0 max_path marks v) where
     closes : byte_at s c.at.0 ≡ 125
     closes = ascii-byte s c.at.0 (omega (arith, h.is)) ∙ sym h.is ∙ e

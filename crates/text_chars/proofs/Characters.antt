@@ -9,6 +9,7 @@ use Rattle.rules.specs.Bytes.{byte_at}
 use Rattle.rules.specs.Characters.{width_of, next_place, of_several, character_at}
 use Rattle.theory_text.specs.Positions.{Reached, reached-next, next-line, next-column}
 use Rattle.text_chars.specs.Cursor.{ByteIs, WidthIs, PastIs, cur, step_at, Counts, StepIs}
+use Rattle.std.specs.Prelude.{Some, None}
 use Rattle.text_chars.specs.declared.DocAt.{DocAt}
 use Rattle.text_chars.specs.declared.Step.{Step}
 
@@ -94,16 +95,19 @@ module _ {s : List ℕ} {at lead w : ℕ} (b : ByteIs s at lead) (i : WidthIs le
 counted : {s : List ℕ} {at ch p : ℕ} → at < length s → ch ≡ character_at s at → p ≡ next_place s at → Reached s at → Counts s at ch p
 counted {s} {at} h i j r = rw (i, j) (record { line = next-line s at r h; column = next-column s at r h; reached = reached-next s at r })
 
+abbrev step : ℕ → ℕ → Step
+step ch place = record { ch = ch; next = cur place }
+
 pub step-char : {s : List ℕ} {at ch : ℕ} {p : DocAt} → at < length s → ch ≡ character_at s at → PastIs s at p.0
-    → StepIs s at (Step.Char ch (record { at = p }))
+    → StepIs s at (Some (record { ch = ch; next = record { at = p } }))
 unfolding step_at
 step-char {s} {at} {ch} {p} h i j = record {
-  is = ap (λ (n : ℕ). Step.Char ch (cur n)) j.is ∙ rw (lt-ltb at (length s) h, i);
+  is = ap (λ (n : ℕ). Some (step ch n)) j.is ∙ rw (lt-ltb at (length s) h, i);
   moved = (h, j.forward, j.inside);
   counts = counted h i j.is;
 }
 
-pub step_end : {s : List ℕ} {at : ℕ} → length s ≤ at → StepIs s at Step.End
+pub step_end : {s : List ℕ} {at : ℕ} → length s ≤ at → StepIs s at None
 unfolding step_at
 step_end {s} {at} h = record { is = rw (le-ltb at (length s) h); moved = h; counts = λ r. tt }
 

@@ -5,6 +5,7 @@ use Prim.Native.Nat.{ℕ, ◌+◌, ◌-◌, ◌≤◌, ◌<◌, min}
 use native.Mathlib.Omega.{arith}
 use lib.ListN.{length}
 use borrow.Author.Tests.{lt-ltb, le-ltb, eq-eqb, ne_eqb}
+use Rattle.std.specs.Prelude.{Option, Some, None}
 use Rattle.rules.specs.Sizes.{max_document}
 use Rattle.rules.specs.Characters.{character_at, next_place}
 use Rattle.rules.specs.Positions.{line_at, column_at, line_behind, column_behind}
@@ -19,35 +20,37 @@ use Rattle.text_chars.specs.declared.Position.{Position}
 
 -- ---- a step
 
-module _ {s : List ℕ} (p : Position) {r : Step} (h : StepIs s p.cursor.at.0 r) where
+module _ {s : List ℕ} (p : Position) {r : Option Step} (h : StepIs s p.cursor.at.0 r) where
   abbrev at : ℕ
   at = p.cursor.at.0
 
-  module _ {ch : ℕ} {c : Cursor} (e : r ≡ Step.Char ch c) where
-    parts : (at < length s) × (ch ≡ character_at s at) × (c ≡ cur (next_place s at))
+  module _ {t : Step} (e : r ≡ Some t) where
+    parts : (at < length s) × (t.ch ≡ character_at s at) × (t.next ≡ cur (next_place s at))
     unfolding step_at
     parts =
-        let m : StepMoved (length s) at (Step.Char ch c) = rw e at h.moved in
-        let q : step_at s at ≡ Step.Char (character_at s at) (cur (next_place s at)) = rw (lt-ltb at (length s) m.0, step_at) in
+        let m : StepMoved (length s) at (Some t) = rw e at h.moved in
+        let here : Step = record { ch = character_at s at; next = cur (next_place s at) } in
+        let q : step_at s at ≡ Some here = rw (lt-ltb at (length s) m.0, step_at) in
         let k = h.is in
-        (m.0, cc, cc)
+        let d : t ≡ here = cc in
+        (m.0, ap (λ (x : Step). x.ch) d, ap (λ (x : Step). x.next) d)
 
-    past : (line column : ℕ) → line ≡ line_behind ch p.line → column ≡ column_behind ch p.column
-        → PositionStepIs s p (record { cursor = c; line = line; column = column })
+    past : (line column : ℕ) → line ≡ line_behind t.ch p.line → column ≡ column_behind t.ch p.column
+        → PositionStepIs s p (record { cursor = t.next; line = line; column = column })
     unfolding position_past
     past line column l k =
         let (i, j, d) = parts in
         record { is = rw (lt-ltb at (length s) i, position_past, d, ← j, l, k) }
 
-    pub step-newline : ch ≡ 10 → PositionStepIs s p (record { cursor = c; line = p.line + 1; column = 1 })
+    pub step-newline : t.ch ≡ 10 → PositionStepIs s p (record { cursor = t.next; line = p.line + 1; column = 1 })
     unfolding line_behind column_behind
-    step-newline n = past (p.line + 1) 1 (rw (eq-eqb ch 10 n, line_behind)) (rw (eq-eqb ch 10 n, column_behind))
+    step-newline n = past (p.line + 1) 1 (rw (eq-eqb t.ch 10 n, line_behind)) (rw (eq-eqb t.ch 10 n, column_behind))
 
-    pub step-same-line : (ch ≡ 10 → ⊥) → PositionStepIs s p (record { cursor = c; line = p.line; column = p.column + 1 })
+    pub step-same-line : (t.ch ≡ 10 → ⊥) → PositionStepIs s p (record { cursor = t.next; line = p.line; column = p.column + 1 })
     unfolding line_behind column_behind
-    step-same-line n = past p.line (p.column + 1) (rw (ne_eqb ch 10 n, line_behind)) (rw (ne_eqb ch 10 n, column_behind))
+    step-same-line n = past p.line (p.column + 1) (rw (ne_eqb t.ch 10 n, line_behind)) (rw (ne_eqb t.ch 10 n, column_behind))
 
-  pub step_stays : r ≡ Step.End → PositionStepIs s p p
+  pub step_stays : r ≡ None → PositionStepIs s p p
   unfolding position_past
   step_stays e = record { is = rw (le-ltb p.cursor.at.0 (length s) (at-end h e), position_past) }
 

@@ -15,7 +15,7 @@ use Rattle.theory_text.specs.Skips.{skip-on, skip-off}
 use Rattle.theory_text.specs.Places.{sequence-past, sequence-moves}
 use Rattle.text_chars.specs.Clash.{clash}
 use Rattle.text_chars.specs.WellFormed.{block_size, NotAsciiIs, AllAscii, BlockIs, formed_from, WellFormedIs}
-use Rattle.text_chars.specs.declared.Ill.{Ill}
+use Rattle.std.specs.Prelude.{Some, None}
 
 -- inside a list the default does not matter
 pub get_d_any : (s : List ℕ) (at a b : ℕ) → at < length s → get_or s at a ≡ get_or s at b
@@ -311,13 +311,13 @@ module _ {s : List ℕ} {at : ℕ} (f : Formed s at) where
   unfolding formed_from
   ends e = f.still ∙ skip-off _ _ (length s) (sequence-moves s) (length s) at (rw e)
 
-  pub formed-bad : {n : ℕ} → at < length s → WellFormedIs s at n → n ≡ 0 → Ill.At (doc at) ≡ ill_at (ill_formed s)
+  pub formed-bad : {n : ℕ} → at < length s → WellFormedIs s at n → n ≡ 0 → Some (doc at) ≡ ill_at (ill_formed s)
   unfolding ill_formed
   formed-bad h w z =
       let q : well_formed_end s ≡ at = ends (w.none z) in
-      rw (lt-ltb (well_formed_end s) (length s) (omega arith), ill_formed) (ap (λ p. Ill.At (doc p)) (sym q))
+      rw (lt-ltb (well_formed_end s) (length s) (omega arith), ill_formed) (ap (λ p. Some (doc p)) (sym q))
 
-  pub formed-end : length s ≤ at → Ill.Nowhere ≡ ill_at (ill_formed s)
+  pub formed-end : length s ≤ at → None ≡ ill_at (ill_formed s)
   unfolding ill_formed
   formed-end h = rw (ends (sequence-past s at h), le-ltb at (length s) h, ill_formed)
 

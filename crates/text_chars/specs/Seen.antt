@@ -1,5 +1,5 @@
 -- What a step tells of the bytes at a place: facts for code that reads characters where the rules test bytes.
-use Rattle.std.specs.Prelude.{◌≡◌, refl, Bool, List, ℕ, ◌+◌, ◌≤◌, ◌<◌, eqb, length}
+use Rattle.std.specs.Prelude.{◌≡◌, refl, Bool, List, ℕ, ◌+◌, ◌≤◌, ◌<◌, eqb, length, Option, Some, None}
 use Rattle.std.proofs.Math.Path.{sym, ap}
 use Rattle.std.proofs.Common.{◌∙◌, arith}
 use Rattle.std.proofs.Math.Bool.{true, false}
@@ -22,15 +22,16 @@ pub record Seen (s : List ℕ) (at ch p : ℕ) : Type 0 where
   pub one : ch < 128 → p ≡ at + 1
   pub high : 128 ≤ ch → 128 ≤ byte_at s at
 
-module _ {s : List ℕ} {at : ℕ} {r : Step} (h : StepIs s at r) where
-  pub seen : {ch : ℕ} {c : Cursor} → r ≡ Step.Char ch c → Seen s at ch c.at.0
+module _ {s : List ℕ} {at : ℕ} {r : Option Step} (h : StepIs s at r) where
+  pub seen : {t : Step} → r ≡ Some t → Seen s at t.ch t.next.at.0
   unfolding step_at
-  seen {ch} {c} e =
-      let m : StepMoved (length s) at (Step.Char ch c) = rw e at h.moved in
-      let q : step_at s at ≡ Step.Char (character_at s at) (cur (next_place s at)) = rw (lt-ltb at (length s) m.0, step_at) in
-      let i : ch ≡ character_at s at = cc in
-      let d : c ≡ cur (next_place s at) = cc in
-      let j : c.at.0 ≡ next_place s at = ap (λ (x : Cursor). x.at.0) d in
+  seen {t} e =
+      let m : StepMoved (length s) at (Some t) = rw e at h.moved in
+      let here : Step = record { ch = character_at s at; next = cur (next_place s at) } in
+      let q : step_at s at ≡ Some here = rw (lt-ltb at (length s) m.0, step_at) in
+      let d : t ≡ here = cc in
+      let i : t.ch ≡ character_at s at = ap (λ (x : Step). x.ch) d in
+      let j : t.next.at.0 ≡ next_place s at = ap (λ (x : Step). x.next.at.0) d in
       record {
         within = m.0;
         past = j;
@@ -41,11 +42,11 @@ module _ {s : List ℕ} {at : ℕ} {r : Step} (h : StepIs s at r) where
         high = λ k. far i k (ltb (byte_at s at) 128) refl;
       }
     where
-      far : ch ≡ character_at s at → 128 ≤ ch → (t : Bool) → ltb (byte_at s at) 128 ≡ t → 128 ≤ byte_at s at
+      far : {ch : ℕ} → ch ≡ character_at s at → 128 ≤ ch → (b : Bool) → ltb (byte_at s at) 128 ≡ b → 128 ≤ byte_at s at
       far i k true e = absurd (omega (arith, ascii-character s at (ltb-true (byte_at s at) 128 e), ltb-true (byte_at s at) 128 e))
       far i k false e = ltb-false (byte_at s at) 128 e
 
-  pub at-end : r ≡ Step.End → length s ≤ at
+  pub at-end : r ≡ None → length s ≤ at
   at-end e = rw e at h.moved
 
 -- what tells no byte from 128 on from another may be asked of the character

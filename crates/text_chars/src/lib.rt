@@ -63,22 +63,11 @@ pub struct Position {
     pub column: usize,
 }
 
-/// What stands at a cursor. A character is its code point.
+/// A character, which is its code point, and the cursor past it.
 #[derive(Clone, Copy)]
-pub enum Step {
-    // a character, and the cursor past it
-    Char { ch: u32, next: Cursor },
-    // the end of the text
-    End,
-}
-
-/// Whether a text is well-formed UTF-8.
-#[derive(Clone, Copy)]
-pub enum Ill {
-    // it is
-    Nowhere,
-    // it is not, and this is the first place where it is not
-    At(DocAt),
+pub struct Step {
+    pub ch: u32,
+    pub next: Cursor,
 }
 
 // A byte, widened: what is asked is the index alone.
@@ -273,8 +262,8 @@ fn well_formed(s: &[u8], at: DocAt) -> usize
     sequence(s, at)
 }
 
-/// Whether a text is well-formed UTF-8, and if not, where not first.
-pub fn ill_formed(s: &[u8]) -> Ill
+/// The first place where a text is not well-formed UTF-8; none where all of it is.
+pub fn ill_formed(s: &[u8]) -> Option<DocAt>
     requires { length s.now ≤ max_document }
     ensures { result ≡ ill_at (ill_formed s.now) }
 {
@@ -282,11 +271,11 @@ pub fn ill_formed(s: &[u8]) -> Ill
     while at < s.len() {
         let n = well_formed(s, DocAt(at));
         if n == 0 {
-            return Ill::At(DocAt(at));
+            return Some(DocAt(at));
         }
         at += n;
     }
-    Ill::Nowhere
+    None
 }
 
 // ---- the cursor
@@ -364,19 +353,19 @@ impl Cursor {
         Cursor { at: DocAt(0) }
     }
 
-    /// The character here, and the cursor past it.
-    pub fn step(self, s: &[u8]) -> Step
+    /// The character here, and the cursor past it; none at the end of the text.
+    pub fn step(self, s: &[u8]) -> Option<Step>
         requires { length s.now ≤ max_document }
         ensures { StepIs s.now self.at.0 result }
     {
         let at = self.at;
         if at.0 < s.len() {
-            Step::Char {
+            Some(Step {
                 ch: character(s, at),
                 next: Cursor { at: past(s, at) },
-            }
+            })
         } else {
-            Step::End
+            None
         }
     }
 }
@@ -402,22 +391,20 @@ impl Position {
     {
         let line = self.line;
         let column = self.column;
-        match self.cursor.step(s) {
-            Step::Char { ch, next } => {
-                if ch == bytes::NEWLINE {
-                    return Position {
-                        cursor: next,
-                        line: line + 1,
-                        column: 1,
-                    };
-                }
-                Position {
-                    cursor: next,
-                    line,
-                    column: column + 1,
-                }
-            }
-            Step::End => self,
+        let Some(Step { ch, next }) = self.cursor.step(s) else {
+            return self;
+        };
+        if ch == bytes::NEWLINE {
+            return Position {
+                cursor: next,
+                line: line + 1,
+                column: 1,
+            };
+        }
+        Position {
+            cursor: next,
+            line,
+            column: column + 1,
         }
     }
 }

@@ -14,7 +14,7 @@ use Rattle.rules.specs.Utf8.{ill_formed}
 use Rattle.rules.specs.Environment.{Variable, with_variable, name_from, at_most, entries_of}
 use Rattle.text_chars.specs.Cursor.{ill_at}
 use Rattle.text_chars.specs.declared.DocAt.{DocAt}
-use Rattle.text_chars.specs.declared.Ill.{Ill}
+use Rattle.std.specs.Prelude.{Some, None, Option as Maybe}
 use Rattle.text_environment.specs.Clauses.{is_some, entries, entry, EntryAt, EntryIs}
 use Rattle.text_chars.specs.Clash.{clash}
 use Rattle.text_chars.specs.declared.EnvAt.{EnvAt}
@@ -75,20 +75,20 @@ module _ (s : List ℕ) where
   unfolding entries_of
   valid-long h = rw (lt-leb (length s) max_environment h, entries_of)
 
-  module _ {r : Ill} (u : r ≡ ill_at (ill_formed s)) (h : length s ≤ max_environment) where
-    pub valid-ill : {p : DocAt} → r ≡ Ill.At p → false ≡ is_some (entries_of s)
+  module _ {r : Maybe DocAt} (u : r ≡ ill_at (ill_formed s)) (h : length s ≤ max_environment) where
+    pub valid-ill : {p : DocAt} → r ≡ Some p → false ≡ is_some (entries_of s)
     unfolding entries_of
     valid-ill {p} e = go (ill_formed s) refl (sym u ∙ e)
       where
-        go : (o : Option ℕ) → ill_formed s ≡ o → ill_at o ≡ Ill.At p → false ≡ is_some (entries_of s)
+        go : (o : Option ℕ) → ill_formed s ≡ o → ill_at o ≡ Some p → false ≡ is_some (entries_of s)
         go none q z = clash (cc)
         go (some place) q z = rw (le-leb (length s) max_environment h, q, entries_of)
 
-    pub valid-formed : {f : Bool} → r ≡ Ill.Nowhere → f ≡ is_some (entries 64 s 0) → f ≡ is_some (entries_of s)
+    pub valid-formed : {f : Bool} → r ≡ None → f ≡ is_some (entries 64 s 0) → f ≡ is_some (entries_of s)
     unfolding entries_of
     valid-formed {f} e k = go (ill_formed s) refl (sym u ∙ e)
       where
-        go : (o : Option ℕ) → ill_formed s ≡ o → ill_at o ≡ Ill.Nowhere → f ≡ is_some (entries_of s)
+        go : (o : Option ℕ) → ill_formed s ≡ o → ill_at o ≡ None → f ≡ is_some (entries_of s)
         go none q z = rw (le-leb (length s) max_environment h, q, entries_of) k
         go (some place) q z = clash (cc)
 

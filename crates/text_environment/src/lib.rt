@@ -9,7 +9,7 @@ ghost use Rattle.rules.specs.Environment.{entries_of};
 ghost use Rattle.text_environment.specs.Clauses.{is_some, entries, NameEnds, TextEnds, EntryIs};
 
 use codes::{bytes, limits};
-use text_chars::{EnvAt, Ill, env_byte, ill_formed};
+use text_chars::{EnvAt, env_byte, ill_formed};
 
 // Where a name or a text ends.
 #[derive(Clone, Copy)]
@@ -119,7 +119,7 @@ pub fn is_valid(env: &[u8]) -> bool
         return false;
     }
     match ill_formed(env) {
-        Ill::At(place) => false,
-        Ill::Nowhere => are_entries(env),
+        Some(_) => false,
+        None => are_entries(env),
     }
 }

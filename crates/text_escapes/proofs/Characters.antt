@@ -2,7 +2,7 @@
 use mathlib.Core.Path.{◌≡◌, refl, sym, ap}
 use mathlib.Core.List.{List}
 use mathlib.Core.Option.{none, some}
-use Rattle.std.specs.Prelude.{Some, None, Ok, Err}
+use Rattle.std.specs.Prelude.{Option, Some, None, Ok, Err}
 use Prim.Native.Nat.{ℕ, ◌+◌, ◌≤◌, ◌<◌}
 use native.Mathlib.Omega.{arith}
 use lib.ListN.{length}
@@ -19,20 +19,20 @@ use Rattle.text_escapes.specs.Clauses.{LetterIs, ExpectIs}
 
 -- ---- one certain character
 
-module _ {s : List ℕ} {at b : ℕ} {r : Step} (h : StepIs s at r) where
-  pub expect-end : {first : ℕ} → r ≡ Step.End → ExpectIs b s first at (Err (refusal 4 (doc (length s))))
+module _ {s : List ℕ} {at b : ℕ} {r : Option Step} (h : StepIs s at r) where
+  pub expect-end : {first : ℕ} → r ≡ None → ExpectIs b s first at (Err (refusal 4 (doc (length s))))
   unfolding expect
   expect-end e = record { is = rw (le-leb (length s) at (at-end h e), expect); far = tt }
 
-  module _ {ch : ℕ} {c : Cursor} (l : b < 128) (e : r ≡ Step.Char ch c) where
-    pub expect-found : {first : ℕ} → ch ≡ b → ExpectIs b s first at (Ok c)
+  module _ {t : Step} (l : b < 128) (e : r ≡ Some t) where
+    pub expect-found : {first : ℕ} → t.ch ≡ b → ExpectIs b s first at (Ok t.next)
     unfolding expect
     expect-found i =
         let z = seen h e in
-        let o : c.at.0 ≡ at + 1 = z.one (omega arith) in
+        let o : t.next.at.0 ≡ at + 1 = z.one (omega arith) in
         record { is = rw (lt-leb (length s) at z.within, seen-eq z b l i, expect) (ap (ok b) (sym o)); far = (o, z.inside) }
 
-    pub expect-other : {first : DocAt} → (ch ≡ b → ⊥) → ExpectIs b s first.0 at (Err (refusal 5 first))
+    pub expect-other : {first : DocAt} → (t.ch ≡ b → ⊥) → ExpectIs b s first.0 at (Err (refusal 5 first))
     unfolding expect
     expect-other n = let z = seen h e in record { is = rw (lt-leb (length s) at z.within, seen-ne z b l n, expect); far = tt }
 

@@ -120,24 +120,24 @@ module _ {s : List ℕ} {first at₀ at unit n : ℕ} (I : HexLoop s first at₀
     turn : hex_from 4 s first 0 at₀ ≡ hex_from (suc (4 - (n + 1))) s first unit at
     turn = I.is ∙ ap (λ (m : ℕ). hex_from m s first unit at) left_is
 
-    module _ {r : Step} (h : StepIs s at r) where
-      pub digits-cut : r ≡ Step.End → UnitIs s first at₀ (Err (refusal 4 (doc (length s))))
+    module _ {r : Maybe Step} (h : StepIs s at r) where
+      pub digits-cut : r ≡ None → UnitIs s first at₀ (Err (refusal 4 (doc (length s))))
       unfolding hex_from
       digits-cut e = record { is = turn ∙ rw (le-leb (length s) at (at-end h e), hex_from); far = tt }
 
-      module _ {ch : ℕ} {c : Cursor} (e : r ≡ Step.Char ch c) {q : Maybe ℕ} (k : HexIs ch q) where
+      module _ {t : Step} (e : r ≡ Some t) {q : Maybe ℕ} (k : HexIs t.ch q) where
         bad : q ≡ None → hex_from 4 s first 0 at₀ ≡ refused (placed 5 first)
         unfolding hex_from
         bad i =
             let z = seen h e in
-            turn ∙ rw (lt-leb (length s) at z.within, digit-seen z ∙ maybe-none (hex_digit ch) (sym k.is ∙ i), hex_from)
+            turn ∙ rw (lt-leb (length s) at z.within, digit-seen z ∙ maybe-none (hex_digit t.ch) (sym k.is ∙ i), hex_from)
 
         pub digits-bad : {place : DocAt} → place.0 ≡ first → q ≡ None → UnitIs s first at₀ (Err (refusal 5 place))
         digits-bad {place} f i = record { is = bad i ∙ ap (λ (m : ℕ). refused (placed 5 m)) (sym f); far = tt }
 
         module _ {d : ℕ} (i : q ≡ Some d) where
-          digit : hex_digit ch ≡ some d
-          digit = maybe-some (hex_digit ch) (sym k.is ∙ i)
+          digit : hex_digit t.ch ≡ some d
+          digit = maybe-some (hex_digit t.ch) (sym k.is ∙ i)
 
           below : d < 16
           below = rw i at k.small
@@ -152,11 +152,11 @@ module _ {s : List ℕ} {first at₀ at unit n : ℕ} (I : HexLoop s first at₀
               ∙ sym (mul_assoc (unit + 1) 16 (16 ^ (4 - (n + 1)))) in
               le_trans (mul-le-mul_right (16 ^ (4 - (n + 1))) m) (omega (arith, I.low, p))
 
-          pub digits-turn : HexLoop s first at₀ c.at.0 (unit * 16 + d) (n + 1)
+          pub digits-turn : HexLoop s first at₀ t.next.at.0 (unit * 16 + d) (n + 1)
           unfolding hex_from
           digits-turn =
               let z = seen h e in
-              let o : c.at.0 ≡ at + 1 = z.one (digit-ascii digit) in
+              let o : t.next.at.0 ≡ at + 1 = z.one (digit-ascii digit) in
               record {
                 is = turn ∙ rw (lt-leb (length s) at z.within, digit-seen z ∙ digit, hex_from, o);
                 gone = omega (arith, I.gone);

@@ -36,28 +36,28 @@ letter-ascii ch {b} e = go (ltb ch 128) refl
     go true f = ltb-true ch 128 f
     go false f = clash (cc (past-letters ch (ltb-false ch 128 f)))
 
-module _ {s : List ℕ} (first : DocAt) {c : Cursor} (w : c.at.0 ≡ first.0 + 1) {r : Step} (h : StepIs s c.at.0 r) where
-  pub escape-cut : {b : List ℕ} → r ≡ Step.End → EscapeIs s first.0 b b (Err (refusal 4 (doc (length s))))
+module _ {s : List ℕ} (first : DocAt) {c : Cursor} (w : c.at.0 ≡ first.0 + 1) {r : Option Step} (h : StepIs s c.at.0 r) where
+  pub escape-cut : {b : List ℕ} → r ≡ None → EscapeIs s first.0 b b (Err (refusal 4 (doc (length s))))
   unfolding escape_at
   escape-cut e =
       let p : length s ≤ first.0 + 1 = omega (arith, at-end h e) in
       decoded-refusal refl {x = ended s} (rw (le-leb (length s) (first.0 + 1) p, escape_at)) refl refl
 
-  module _ {ch : ℕ} {d : Cursor} (e : r ≡ Step.Char ch d) where
-    here : Seen s (first.0 + 1) ch d.at.0
+  module _ {t : Step} (e : r ≡ Some t) where
+    here : Seen s (first.0 + 1) t.ch t.next.at.0
     here = rw w at (seen h e)
 
     pub escape-room : (b : List ℕ) → length s - first.0 ≤ length b → 0 < length b
     escape-room b l = omega (arith, here.within)
 
-    module _ {q : Option ℕ} (k : LetterIs ch q) where
+    module _ {q : Option ℕ} (k : LetterIs t.ch q) where
       pub escape-letter : {b : List ℕ} {v : ℕ} → q ≡ Some v → length s - first.0 ≤ length b
-          → EscapeIs s first.0 b (set b 0 v) (Ok (quoted d (sized 1)))
+          → EscapeIs s first.0 b (set b 0 v) (Ok (quoted t.next (sized 1)))
       unfolding escape_at
       escape-letter {b} {v} f l =
-          let i : letter_escape ch ≡ some v = maybe-some (letter_escape ch) (sym k.is ∙ f) in
+          let i : letter_escape t.ch ≡ some v = maybe-some (letter_escape t.ch) (sym k.is ∙ f) in
           let j : letter_escape (byte_at s (first.0 + 1)) ≡ some v = letter-seen here ∙ i in
-          let o : d.at.0 ≡ first.0 + 2 = omega (arith, here.one (letter-ascii ch i)) in
+          let o : t.next.at.0 ≡ first.0 + 2 = omega (arith, here.one (letter-ascii t.ch i)) in
           let y = write-text (v ∷ []) b (escape-room b l) in
           decoded-text y.kept {text = v ∷ []}
           (rw (lt-leb (length s) (first.0 + 1) here.within, j, escape_at) (ap (ok (v ∷ [])) (sym o))) refl y.bytes
@@ -65,16 +65,16 @@ module _ {s : List ℕ} (first : DocAt) {c : Cursor} (w : c.at.0 ≡ first.0 + 1
 
       module _ (f : q ≡ None) where
         no-letter-here : letter_escape (byte_at s (first.0 + 1)) ≡ none
-        no-letter-here = letter-seen here ∙ maybe-none (letter_escape ch) (sym k.is ∙ f)
+        no-letter-here = letter-seen here ∙ maybe-none (letter_escape t.ch) (sym k.is ∙ f)
 
-        pub escape-other : {b : List ℕ} → (ch ≡ 117 → ⊥) → EscapeIs s first.0 b b (Err (refusal 5 first))
+        pub escape-other : {b : List ℕ} → (t.ch ≡ 117 → ⊥) → EscapeIs s first.0 b b (Err (refusal 5 first))
         unfolding escape_at
         escape-other n =
             decoded-refusal refl {x = placed 5 first.0}
             (rw (lt-leb (length s) (first.0 + 1) here.within, no-letter-here, seen-ne here 117 (omega arith) n, escape_at)) refl refl
 
-        module _ (u : ch ≡ 117) {x : Result CodePoint Refusal} (m : PointIs (unicode_escape s first.0 d.at.0) s d.at.0 x) where
-          two : d.at.0 ≡ first.0 + 2
+        module _ (u : t.ch ≡ 117) {x : Result CodePoint Refusal} (m : PointIs (unicode_escape s first.0 t.next.at.0) s t.next.at.0 x) where
+          two : t.next.at.0 ≡ first.0 + 2
           two = omega (arith, here.one (omega arith))
 
           unicode : escape_at s first.0 ≡ point_scan x
@@ -87,7 +87,7 @@ module _ {s : List ℕ} (first : DocAt) {c : Cursor} (w : c.at.0 ≡ first.0 + 1
           escape-bad {b} {y} g = decoded-refusal refl {x = placed y.number y.place.0} (unicode ∙ ap point_scan g) refl refl
 
           module _ {v : CodePoint} (g : x ≡ Ok v) where
-            far : PointFar (length s) d.at.0 (Ok v)
+            far : PointFar (length s) t.next.at.0 (Ok v)
             far = rw g at m.far
 
             pub encode-small : v.ch < no_character

@@ -27,21 +27,19 @@ pub fn expect(s: &[u8], c: Cursor, ch: u32, first: DocAt) -> Result<Cursor, Refu
     requires { (length s.now ≤ max_document) × (ch < 128) }
     ensures { ExpectIs ch s.now first.0 c.at.0 result }
 {
-    match c.step(s) {
-        Step::End => Err(Refusal {
+    let Some(Step { ch: here, next }) = c.step(s) else {
+        return Err(Refusal {
             number: refusals::UNEXPECTED_END,
             place: DocAt(s.len()),
-        }),
-        Step::Char { ch: here, next } => {
-            if here == ch {
-                return Ok(next);
-            }
-            Err(Refusal {
-                number: refusals::BAD_NUMBER_OR_STRING,
-                place: first,
-            })
-        }
+        });
+    };
+    if here == ch {
+        return Ok(next);
     }
+    Err(Refusal {
+        number: refusals::BAD_NUMBER_OR_STRING,
+        place: first,
+    })
 }
 
 // The character of an escape, by its code point, and the cursor past the escape.
@@ -133,31 +131,29 @@ pub fn escape(s: &[u8], c: Cursor, first: DocAt, out: &mut [u8]) -> Result<Quote
     requires { (length s.now ≤ max_document) × (c.at.0 ≡ first.0 + 1) × (length s.now - first.0 ≤ length out.old) }
     ensures { EscapeIs s.now first.0 out.old out.new result }
 {
-    match c.step(s) {
-        Step::End => Err(Refusal {
+    let Some(Step { ch, next }) = c.step(s) else {
+        return Err(Refusal {
             number: refusals::UNEXPECTED_END,
             place: DocAt(s.len()),
-        }),
-        Step::Char { ch, next } => {
-            if let Some(b) = letter_escape(ch) {
-                out[0] = b;
-                return Ok(Quoted {
-                    next,
-                    used: TextLen(1),
-                });
-            }
-            if ch == letters::U {
-                let point = unicode_escape(s, next, first)?;
-                let used = encode(point.ch, out);
-                return Ok(Quoted {
-                    next: point.next,
-                    used: TextLen(used),
-                });
-            }
-            Err(Refusal {
-                number: refusals::BAD_NUMBER_OR_STRING,
-                place: first,
-            })
-        }
+        });
+    };
+    if let Some(b) = letter_escape(ch) {
+        out[0] = b;
+        return Ok(Quoted {
+            next,
+            used: TextLen(1),
+        });
     }
+    if ch == letters::U {
+        let point = unicode_escape(s, next, first)?;
+        let used = encode(point.ch, out);
+        return Ok(Quoted {
+            next: point.next,
+            used: TextLen(used),
+        });
+    }
+    Err(Refusal {
+        number: refusals::BAD_NUMBER_OR_STRING,
+        place: first,
+    })
 }

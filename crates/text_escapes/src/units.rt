@@ -67,24 +67,20 @@ pub fn hex_four(s: &[u8], c: Cursor, first: DocAt) -> Result<Unit, Refusal>
     let mut at = c;
     let mut unit: u32 = 0;
     for turn in 0..DIGITS {
-        match at.step(s) {
-            Step::End => {
-                return Err(Refusal {
-                    number: refusals::UNEXPECTED_END,
-                    place: DocAt(s.len()),
-                });
-            }
-            Step::Char { ch, next } => {
-                let Some(d) = hex_digit(ch) else {
-                    return Err(Refusal {
-                        number: refusals::BAD_NUMBER_OR_STRING,
-                        place: first,
-                    });
-                };
-                unit = unit * 16 + d;
-                at = next;
-            }
-        }
+        let Some(Step { ch, next }) = at.step(s) else {
+            return Err(Refusal {
+                number: refusals::UNEXPECTED_END,
+                place: DocAt(s.len()),
+            });
+        };
+        let Some(d) = hex_digit(ch) else {
+            return Err(Refusal {
+                number: refusals::BAD_NUMBER_OR_STRING,
+                place: first,
+            });
+        };
+        unit = unit * 16 + d;
+        at = next;
     }
     Ok(Unit { unit, next: at })
 }

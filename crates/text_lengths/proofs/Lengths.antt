@@ -13,7 +13,7 @@ use Rattle.text_chars.specs.Clash.{clash}
 use Rattle.text_chars.specs.Cursor.{ill_at}
 use Rattle.text_chars.specs.declared.Cursor.{Cursor}
 use Rattle.text_chars.specs.declared.DocAt.{DocAt}
-use Rattle.text_chars.specs.declared.Ill.{Ill}
+use Rattle.std.specs.Prelude.{Some, None, Option as Maybe}
 use Rattle.text_scan.specs.Scan.{EndIs}
 use Rattle.text_lengths.specs.Decimals.Contracts.{decimal_in, DecimalIs, unit_as, UnitIs}
 use Rattle.text_lengths.specs.declared.decimals.Decimal.{Decimal}
@@ -76,20 +76,20 @@ pub ruleset rests = (rest-bare, rest-number, rest-missing, rest-minus, rest-leng
 
 -- ---- the whole text
 
-ill-some : (o : Option ℕ) (place : DocAt) → Ill.At place ≡ ill_at o → (p : ℕ) × (o ≡ some p)
+ill-some : (o : Option ℕ) (place : DocAt) → Some place ≡ ill_at o → (p : ℕ) × (o ≡ some p)
 ill-some none place e = clash (cc)
 ill-some (some p) place e = (p, refl)
 
-ill-none : (o : Option ℕ) → Ill.Nowhere ≡ ill_at o → o ≡ none
+ill-none : (o : Option ℕ) → None ≡ ill_at o → o ≡ none
 ill-none none e = refl
 ill-none (some p) e = clash (cc)
 
-module _ (s : List ℕ) (string : Bool) {i : Ill} (g : i ≡ ill_at (ill_formed s)) where
-  pub length-ill : {place : DocAt} → i ≡ Ill.At place → MeasuredIs (length_of string s) (Measured.Refused 20)
+module _ (s : List ℕ) (string : Bool) {i : Maybe DocAt} (g : i ≡ ill_at (ill_formed s)) where
+  pub length-ill : {place : DocAt} → i ≡ Some place → MeasuredIs (length_of string s) (Measured.Refused 20)
   unfolding length_of no_length
   length-ill {place} e = let (p, z) = ill-some (ill_formed s) place (sym e ∙ g) in record { is = rw (z, length_of); numbered = omega arith }
 
-  module _ (w : i ≡ Ill.Nowhere) {r : Start} (k : DecimalIs s r) where
+  module _ (w : i ≡ None) {r : Start} (k : DecimalIs s r) where
     well : ill_formed s ≡ none
     well = ill-none (ill_formed s) (sym w ∙ g)
 

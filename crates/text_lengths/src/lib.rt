@@ -14,7 +14,7 @@ ghost use Rattle.text_lengths.specs.Micrometres.Contracts.{MeasuredIs};
 use crate::decimals::{Decimal, Start, UnitRead};
 use crate::micrometres::Measured;
 use codes::refusals;
-use text_chars::{Cursor, Ill};
+use text_chars::Cursor;
 
 // The length of the number with which a text begins, by what stands behind it.
 fn with_rest(s: &[u8], string: bool, d: Decimal) -> Measured
@@ -54,10 +54,10 @@ pub fn length_of(s: &[u8], string: bool) -> Measured
     ensures { MeasuredIs (length_of string s.now) result }
 {
     match text_chars::ill_formed(s) {
-        Ill::At(place) => Measured::Refused {
+        Some(_) => Measured::Refused {
             number: refusals::MALFORMED_LENGTH,
         },
-        Ill::Nowhere => match crate::decimals::decimal_of(s) {
+        None => match crate::decimals::decimal_of(s) {
             Start::Other => Measured::Refused {
                 number: refusals::MALFORMED_LENGTH,
             },

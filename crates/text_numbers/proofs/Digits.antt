@@ -13,7 +13,7 @@ use Rattle.rules.specs.Numbers.{is_digit, after_digits, after_int, after_fractio
 use Rattle.text_chars.specs.declared.Cursor.{Cursor}
 use Rattle.text_scan.specs.Scan.{SeenIs, EndIs}
 use Rattle.text_numbers.specs.Clauses.{is_sign, is_exponent, after_unsigned, NumberMoved, NumberIs}
-use Rattle.text_scan.specs.declared.Seen.{Seen}
+use Rattle.text_chars.specs.declared.Step.{Step}
 use Rattle.text_numbers.specs.declared.Number.{Number}
 use Rattle.text_scan.specs.Looks.{Ascii, passes-low, byte-test, is_byte, not_byte, ascii-next}
 use Rattle.text_scan.specs.Walks.{digit-ascii}
@@ -52,7 +52,7 @@ exponent-ascii : Ascii is_exponent
 exponent-ascii n h = rw (ne_eqb n 69 (λ e. omega arith), ne_eqb n 101 (λ e. omega arith))
 
 -- a test of the character is one of its byte, and what passes it is one byte long
-module _ {s : List ℕ} {at : ℕ} {r : Seen} (k : SeenIs s at r) (t : ℕ → Bool) (a : Ascii t) {f : Bool} (i : f ≡ t r.ch) where
+module _ {s : List ℕ} {at : ℕ} {r : Step} (k : SeenIs s at r) (t : ℕ → Bool) (a : Ascii t) {f : Bool} (i : f ≡ t r.ch) where
   says : {b : Bool} → f ≡ b → t (byte_at s at) ≡ b
   says h = byte-test k t a ∙ sym i ∙ h
 
@@ -61,7 +61,7 @@ module _ {s : List ℕ} {at : ℕ} {r : Seen} (k : SeenIs s at r) (t : ℕ → B
 
 -- ---- int
 
-module _ {s : List ℕ} {at : ℕ} {r : Seen} (k : SeenIs s at r) where
+module _ {s : List ℕ} {at : ℕ} {r : Step} (k : SeenIs s at r) where
   pub int-zero : r.ch ≡ 48 → NumberIs s at (after_int s at) (Number.End r.next)
   unfolding after_int
   int-zero e =
@@ -96,12 +96,12 @@ pub ruleset ints = (int-zero, int-digits, int-missing)
 stay : {s : List ℕ} {c : Cursor} {place : ℕ} → c.at.0 ≤ length s → place ≡ c.at.0 → EndIs s c.at.0 place c
 stay l e = record { is = sym e; forward = omega arith; inside = l }
 
-module _ {s : List ℕ} {c : Cursor} {r : Seen} (k : SeenIs s c.at.0 r) where
+module _ {s : List ℕ} {c : Cursor} {r : Step} (k : SeenIs s c.at.0 r) where
   pub fraction-none : c.at.0 ≤ length s → (r.ch ≡ 46 → ⊥) → EndIs s c.at.0 (after_fraction s c.at.0) c
   unfolding after_fraction
   fraction-none l z = stay l (rw (not_byte k 46 (omega arith) z, after_fraction))
 
-  module _ (e : r.ch ≡ 46) {q : Seen} (j : SeenIs s r.next.at.0 q) {f : Bool} (i : f ≡ is_digit q.ch) where
+  module _ (e : r.ch ≡ 46) {q : Step} (j : SeenIs s r.next.at.0 q) {f : Bool} (i : f ≡ is_digit q.ch) where
     first : {b : Bool} → f ≡ b → is_digit (byte_at s (c.at.0 + 1)) ≡ b
     first h = rw (ascii-next k (omega arith)) at (says j is_digit digit-ascii i h)
 
@@ -139,7 +139,7 @@ module _ {s : List ℕ} {c : Cursor} {r : Seen} (k : SeenIs s c.at.0 r) where
     exponent-none l h = stay l (rw (says k is_exponent exponent-ascii i h, after_exponent))
 
     module _ (h : f ≡ true) {p : Cursor} (g : EndIs s r.next.at.0 (after_sign s r.next.at.0) p)
-        {q : Seen} (j : SeenIs s p.at.0 q) {t : Bool} (u : t ≡ is_digit q.ch) where
+        {q : Step} (j : SeenIs s p.at.0 q) {t : Bool} (u : t ≡ is_digit q.ch) where
       signed : p.at.0 ≡ after_sign s (c.at.0 + 1)
       signed = g.is ∙ ap (after_sign s) (one k is_exponent exponent-ascii i h)
 
@@ -203,7 +203,7 @@ number-start : (s : List ℕ) (at p : ℕ) → start s at ≡ p → after_number
 unfolding after_number after_unsigned
 number-start s at p e = ap (after_unsigned s) e
 
-module _ {s : List ℕ} {at : ℕ} {r : Seen} (k : SeenIs s at r) {n : Number} where
+module _ {s : List ℕ} {at : ℕ} {r : Step} (k : SeenIs s at r) {n : Number} where
   pub number-minus : r.ch ≡ 45 → NumberIs s r.next.at.0 (after_unsigned s r.next.at.0) n → NumberIs s at (after_number s at) n
   number-minus e m =
       let b : start s at ≡ at + 1 = rw (is_byte k 45 (omega arith) e, start) in

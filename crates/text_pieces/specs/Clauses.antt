@@ -1,5 +1,5 @@
 -- What the functions on simple pieces promise, by the rules' definitions.
-use Rattle.std.specs.Prelude.{◌≡◌, ℕ, ◌-◌, ◌≤◌, ◌<◌, Bool, true, false, ◌||◌, List, ◌++◌, eqb, length, drop}
+use Rattle.std.specs.Prelude.{◌≡◌, ℕ, ◌-◌, ◌≤◌, ◌<◌, Bool, true, false, ◌||◌, List, ◌++◌, eqb, length, drop, Result, Ok, Err}
 use Rattle.std.proofs.Math.Seq.{slice}
 use Rattle.rules.specs.Sizes.{max_document}
 use Rattle.rules.specs.Bytes.{Text, byte_at}
@@ -8,7 +8,9 @@ use Rattle.rules.specs.Numbers.{is_digit}
 use Rattle.rules.specs.Strings.{quoted_at}
 use Rattle.rules.specs.Tree.{Scalar, null, boolean, number, string}
 use Rattle.rules.specs.Pieces.{Token, token, stops_unquoted, starts_simple, scalar_text}
-use Rattle.text_chars.specs.Cursor.{doc, cur}
+use Rattle.text_chars.specs.Cursor.{doc, cur, refusal}
+use Rattle.text_chars.specs.declared.Refusal.{Refusal}
+use Rattle.text_escapes.specs.Clauses.{sized, quoted}
 use Rattle.text_pieces.specs.declared.Piece.{Piece}
 use Rattle.text_pieces.specs.declared.Lead.{Lead}
 
@@ -36,21 +38,21 @@ of_scalar (number t) end = Piece.Plain 4 (cur end)
 of_scalar (string t) end = Piece.Unquoted (cur end)
 
 abbrev pub of_token : Bool → Scalar → ℕ → Piece
-of_token true x end = Piece.Quoted (cur end) (record { 0 = length (scalar_text x) })
+of_token true x end = Piece.Quoted (quoted (cur end) (sized (length (scalar_text x))))
 of_token false x end = of_scalar x end
 
-abbrev pub piece_of : Scan Token → Piece
-piece_of (ok t end) = of_token t.in_quotes t.scalar end
-piece_of (refused x) = Piece.Refused (number_of x) (doc (place_of x))
+abbrev pub piece_of : Scan Token → Result Piece Refusal
+piece_of (ok t end) = Ok (of_token t.in_quotes t.scalar end)
+piece_of (refused x) = Err (refusal (number_of x) (doc (place_of x)))
 
 -- ---- places and buffers
 
 -- a piece is not empty, not past the end, and its text no longer than what was read
-abbrev pub Moved : ℕ → ℕ → Piece → Type 0
-Moved len at (Piece.Quoted c used) = (at < c.at.0) × (c.at.0 ≤ len) × (used.0 ≤ c.at.0 - at)
-Moved len at (Piece.Unquoted c) = (at < c.at.0) × (c.at.0 ≤ len)
-Moved len at (Piece.Plain kind c) = (at < c.at.0) × (c.at.0 ≤ len)
-Moved len at (Piece.Refused n place) = Unit {0}
+abbrev pub Moved : ℕ → ℕ → Result Piece Refusal → Type 0
+Moved len at (Ok (Piece.Quoted q)) = (at < q.next.at.0) × (q.next.at.0 ≤ len) × (q.used.0 ≤ q.next.at.0 - at)
+Moved len at (Ok (Piece.Unquoted c)) = (at < c.at.0) × (c.at.0 ≤ len)
+Moved len at (Ok (Piece.Plain kind c)) = (at < c.at.0) × (c.at.0 ≤ len)
+Moved len at (Err x) = Unit {0}
 
 -- outside quotes a piece's text is what is written
 abbrev pub Spelt : List ℕ → ℕ → Scan Token → Type 0
@@ -62,7 +64,7 @@ abbrev pub Bare : Scan Token → Type 0
 Bare (ok t end) = t.in_quotes ≡ false
 Bare (refused x) = Unit {0}
 
-pub record ScanIs (m : Scan Token) (s : List ℕ) (at : ℕ) (r : Piece) : Type 0 where
+pub record ScanIs (m : Scan Token) (s : List ℕ) (at : ℕ) (r : Result Piece Refusal) : Type 0 where
   pub is : r ≡ piece_of m
   pub moved : Moved (length s) at r
   pub spelt : Spelt s at m
@@ -77,7 +79,7 @@ abbrev pub LaidPiece : Scan Token → List ℕ → List ℕ → Type 0
 LaidPiece (ok t end) before after = LaidToken t.in_quotes t.scalar before after
 LaidPiece (refused x) before after = Unit {0}
 
-pub record PieceIs (m : Scan Token) (s : List ℕ) (at : ℕ) (before after : List ℕ) (r : Piece) : Type 0 where
+pub record PieceIs (m : Scan Token) (s : List ℕ) (at : ℕ) (before after : List ℕ) (r : Result Piece Refusal) : Type 0 where
   pub is : r ≡ piece_of m
   pub moved : Moved (length s) at r
   pub spelt : Spelt s at m

@@ -2,14 +2,14 @@
 // Computes: Pieces
 #![tactic(auto)]
 
-ghost use Rattle.std.specs.Prelude.{◌≡◌, ◌-◌, ◌≤◌, length};
+ghost use Rattle.std.specs.Prelude.{◌≡◌, ◌-◌, ◌≤◌, length, Ok};
 ghost use Rattle.rules.specs.Sizes.{max_document};
 ghost use Rattle.rules.specs.Bytes.{byte_at};
 ghost use Rattle.rules.specs.Pieces.{unquoted_at, number_at, simple_at};
 ghost use Rattle.text_pieces.specs.Clauses.{LeadIs, TextAsked, ScanIs, quoted_token, PieceAsked, PieceIs};
 
 use codes::{bytes, kinds, refusals};
-use text_chars::{Cursor, DocAt, TextLen};
+use text_chars::{Cursor, Refusal};
 use text_escapes::Quoted;
 use text_numbers::Number;
 use text_unquoted::Word;
@@ -17,14 +17,12 @@ use text_unquoted::Word;
 /// A simple piece that was read, with the cursor past it.
 #[derive(Clone, Copy)]
 pub enum Piece {
-    // in quotes, once or three times: so many bytes of text, written to a lent buffer
-    Quoted { next: Cursor, used: TextLen },
+    // in quotes, once or three times: its text is written to a lent buffer
+    Quoted(Quoted),
     // unquoted text, as it stands
     Unquoted { next: Cursor },
     // a number or one of the words null, false and true, by the kind of their records
     Plain { kind: u8, next: Cursor },
-    // a bad string, or a `-` that starts no number
-    Refused { number: u8, place: DocAt },
 }
 
 // What a simple piece begins with.
@@ -60,7 +58,7 @@ fn lead_of(s: &[u8], c: Cursor) -> Lead
 // A word, or unquoted text.
 fn text_piece(s: &[u8], c: Cursor) -> Piece
     requires { TextAsked s.now c.at.0 }
-    ensures { ScanIs (unquoted_at s.now c.at.0) s.now c.at.0 result }
+    ensures { ScanIs (unquoted_at s.now c.at.0) s.now c.at.0 (Ok result) }
 {
     match text_unquoted::word_at(s, c) {
         Word::True(next) => Piece::Plain {
@@ -82,39 +80,34 @@ fn text_piece(s: &[u8], c: Cursor) -> Piece
 }
 
 // A number, or a refusal at its first byte.
-fn number_piece(s: &[u8], c: Cursor) -> Piece
+fn number_piece(s: &[u8], c: Cursor) -> Result<Piece, Refusal>
     requires { (length s.now ≤ max_document) × (c.at.0 ≤ length s.now) }
     ensures { ScanIs (number_at s.now c.at.0) s.now c.at.0 result }
 {
     match text_numbers::after_number(s, c) {
-        Number::End(next) => Piece::Plain {
+        Number::End(next) => Ok(Piece::Plain {
             kind: kinds::NUMBER,
             next,
-        },
-        Number::Missing => {
-            let place = c.at;
-            Piece::Refused {
-                number: refusals::BAD_NUMBER_OR_STRING,
-                place,
-            }
-        }
+        }),
+        Number::Missing => Err(Refusal {
+            number: refusals::BAD_NUMBER_OR_STRING,
+            place: c.at,
+        }),
     }
 }
 
 // A string in quotes.
-fn quoted_piece(s: &[u8], c: Cursor, out: &mut [u8]) -> Piece
+fn quoted_piece(s: &[u8], c: Cursor, out: &mut [u8]) -> Result<Piece, Refusal>
     requires { (length s.now ≤ max_document) × (byte_at s.now c.at.0 ≡ 34) × (length s.now - c.at.0 ≤ length out.old) }
     ensures { PieceIs (quoted_token s.now c.at.0) s.now c.at.0
         out.old out.new result }
 {
-    match text_strings::read_quoted(s, c, out) {
-        Quoted::Text { next, used } => Piece::Quoted { next, used },
-        Quoted::Refused { number, place } => Piece::Refused { number, place },
-    }
+    let text = text_strings::read_quoted(s, c, out)?;
+    Ok(Piece::Quoted(text))
 }
 
-/// The simple piece at a place where one begins.
-pub fn piece_at(s: &[u8], c: Cursor, out: &mut [u8]) -> Piece
+/// The simple piece at a place where one begins; refused are a bad string, and a `-` that starts no number.
+pub fn piece_at(s: &[u8], c: Cursor, out: &mut [u8]) -> Result<Piece, Refusal>
     requires { PieceAsked s.now c.at.0 out.old }
     ensures { PieceIs (simple_at s.now c.at.0) s.now c.at.0
         out.old out.new result }
@@ -122,6 +115,6 @@ pub fn piece_at(s: &[u8], c: Cursor, out: &mut [u8]) -> Piece
     match lead_of(s, c) {
         Lead::Quote => quoted_piece(s, c, out),
         Lead::Number => number_piece(s, c),
-        Lead::Text => text_piece(s, c),
+        Lead::Text => Ok(text_piece(s, c)),
     }
 }

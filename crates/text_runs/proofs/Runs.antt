@@ -15,6 +15,7 @@ use Rattle.text_chars.specs.Cursor.{cur, StepIs}
 use Rattle.text_chars.specs.Seen.{seen}
 use Rattle.text_chars.specs.Clash.{clash}
 use Rattle.text_chars.specs.declared.Cursor.{Cursor}
+use Rattle.std.specs.Prelude.{Option, Some, None}
 use Rattle.text_chars.specs.declared.Step.{Step}
 use Rattle.text_runs.specs.Clauses.{block_size, stops, Plain, BreaksIs, Passed, none, on, AllPlain, BlockIs, RunIs, OneSays, OneIs}
 use Rattle.text_runs.specs.declared.One.{One}
@@ -153,7 +154,7 @@ module _ (least other : ℕ) (s : List ℕ) (at : ℕ) where
         let low : byte_at s at < 128 = rw (get_d_any s at 0 256 h) at l in
         record { says = (h, goes, sym (ascii-next s at h low), omega arith, omega arith) }
 
-    pub one-step : {r : Step} {ch : ℕ} {c : Cursor} → StepIs s at r → r ≡ Step.Char ch c → OneIs least other s at (One.Past c)
+    pub one-step : {r : Option Step} {t : Step} → StepIs s at r → r ≡ Some t → OneIs least other s at (One.Past t.next)
     one-step t i = let z = seen t i in record { says = (h, goes, z.past, z.forward, z.inside) }
 
 pub ruleset ones = (one-not, one-ascii, one-step)

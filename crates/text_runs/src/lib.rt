@@ -102,10 +102,10 @@ fn pass_one(s: &[u8], c: Cursor, least: u8, other: u8) -> One
         if b < NOT_ASCII {
             return One::Past(Cursor { at: DocAt(p + 1) });
         }
-        match c.step(s) {
-            Step::Char { ch, next } => One::Past(next),
-            Step::End => One::Not,
-        }
+        let Some(Step { ch, next }) = c.step(s) else {
+            return One::Not;
+        };
+        One::Past(next)
     } else {
         One::Not
     }

@@ -14,19 +14,19 @@ use Rattle.theory_text.specs.Places.{inside, character-past, next-forward, comme
 use Rattle.text_chars.specs.Cursor.{cur}
 use Rattle.text_chars.specs.declared.Cursor.{Cursor}
 use Rattle.text_scan.specs.Scan.{SeenIs, EndIs, BlanksIs, rest, Passes, PassedIs, GapIs}
-use Rattle.text_scan.specs.declared.Seen.{Seen}
+use Rattle.text_chars.specs.declared.Step.{Step}
 use Rattle.text_scan.specs.declared.Gap.{Gap}
 use Rattle.text_scan.specs.declared.Passed.{Passed}
 use Rattle.text_scan.specs.Looks.{get_d_any, byte_next, visible, byte-eqb, is_byte, not_byte, ascii-next}
 
 -- ---- the start of a comment
 
-module _ {s : List ℕ} {at : ℕ} {r : Seen} (k : SeenIs s at r) where
+module _ {s : List ℕ} {at : ℕ} {r : Step} (k : SeenIs s at r) where
   pub comment-hash : r.ch ≡ 35 → true ≡ starts_comment s at
   unfolding starts_comment
   comment-hash e = rw (is_byte k 35 (omega arith) e, starts_comment)
 
-  pub comment-slash : {r₂ : Seen} → SeenIs s r.next.at.0 r₂ → r.ch ≡ 47 → eqb r₂.ch 47 ≡ starts_comment s at
+  pub comment-slash : {r₂ : Step} → SeenIs s r.next.at.0 r₂ → r.ch ≡ 47 → eqb r₂.ch 47 ≡ starts_comment s at
   unfolding starts_comment
   comment-slash {r₂} k₂ e =
       let j : eqb (byte_at s (at + 1)) 47 ≡ eqb r₂.ch 47 = rw (ascii-next k (omega arith)) at (byte-eqb k₂ 47 (omega arith)) in
@@ -74,7 +74,7 @@ or-false : (b : Bool) → (b || false) ≡ b
 or-false true = refl
 or-false false = refl
 
-module _ {s : List ℕ} {g : Gap} {r : Seen} (k : SeenIs s g.next.at.0 r) where
+module _ {s : List ℕ} {g : Gap} {r : Step} (k : SeenIs s g.next.at.0 r) where
   space-on : is_space (character_at s g.next.at.0) ≡ true → {b : Bool} → (g.newline || is_newline (character_at s g.next.at.0)) ≡ b
       → PassedIs s g (Passed.On (record { next = r.next; newline = b }))
   space-on e {b} j =

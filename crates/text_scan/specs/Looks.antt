@@ -1,5 +1,5 @@
 -- What stands at a place, and its byte: an ASCII character is one byte, and no other character looks like one.
-use Rattle.std.specs.Prelude.{◌≡◌, refl, Bool, true, false, List, [], ◌∷◌, ℕ, zero, suc, ◌+◌, ◌≤◌, ◌<◌, get_or, ltb, eqb}
+use Rattle.std.specs.Prelude.{◌≡◌, refl, Bool, true, false, List, [], ◌∷◌, ℕ, zero, suc, ◌+◌, ◌≤◌, ◌<◌, get_or, ltb, eqb, Option, Some, None, unwrap_or}
 use Rattle.std.proofs.Math.Path.{sym, ap}
 use Rattle.std.proofs.Common.{◌∙◌, arith}
 use Rattle.std.proofs.Math.ListN.{length}
@@ -13,27 +13,24 @@ use Rattle.text_chars.specs.Cursor.{cur, step_at, StepIs}
 use Rattle.text_chars.specs.declared.Cursor.{Cursor}
 use Rattle.text_chars.specs.declared.Step.{Step}
 use Rattle.text_scan.specs.Scan.{SeenIs}
-use Rattle.text_scan.specs.declared.Seen.{Seen}
 
 -- ---- looking
 
-module _ {s : List ℕ} {at : ℕ} {r : Step} (h : StepIs s at r) where
-  pub seen-char : {ch : ℕ} {c : Cursor} → r ≡ Step.Char ch c → SeenIs s at (record { ch = ch; next = c })
-  unfolding step_at
-  seen-char {ch} {c} e =
-      let m : (at < length s) × (at < c.at.0) × (c.at.0 ≤ length s) = rw e at h.moved in
-      let q = rw (lt-ltb at (length s) m.0) at (sym e ∙ h.is) in
-      let i : ch ≡ character_at s at = cc in
-      let j : c ≡ cur (next_place s at) = cc in
-      record { is = i; next = ap (λ z. z.at.0) j; forward = omega arith; inside = m.2 }
+abbrev beyond : Cursor → Step
+beyond c = record { ch = no_character; next = c }
 
-  pub seen_end : {c : Cursor} → r ≡ Step.End → at ≡ c.at.0 → c.at.0 ≤ length s → SeenIs s at (record { ch = no_character; next = c })
-  unfolding next_place
-  seen_end {c} e i l =
-      let m : length s ≤ at = rw e at h.moved in
-      record { is = sym (character-past s at m); next = omega arith; forward = omega arith; inside = l }
-
-pub ruleset looks = (seen-char, seen_end)
+module _ {s : List ℕ} {c : Cursor} (l : c.at.0 ≤ length s) where
+  pub seen_at : (r : Option Step) {q : Step} → StepIs s c.at.0 r → q ≡ unwrap_or r (beyond c) → SeenIs s c.at.0 q
+  unfolding step_at next_place
+  seen_at (Some t) h e =
+      let m : (c.at.0 < length s) × (c.at.0 < t.next.at.0) × (t.next.at.0 ≤ length s) = h.moved in
+      let q = rw (lt-ltb c.at.0 (length s) m.0) at h.is in
+      let i : t ≡ record { ch = character_at s c.at.0; next = cur (next_place s c.at.0) } = cc in
+      rw e
+      (record { is = ap (λ (z : Step). z.ch) i; next = ap (λ (z : Step). z.next.at.0) i; forward = omega arith; inside = m.2 })
+  seen_at None h e =
+      let m : length s ≤ c.at.0 = h.moved in
+      rw e (record { is = sym (character-past s c.at.0 m); next = omega arith; forward = omega arith; inside = l })
 
 -- ---- a character and its byte
 
@@ -105,7 +102,7 @@ passes-low t f n e = go (ltb n 128) refl
     go true h = ltb-true n 128 h
     go false h = clash (cc (f n (ltb-false n 128 h)))
 
-module _ {s : List ℕ} {at : ℕ} {r : Seen} (k : SeenIs s at r) where
+module _ {s : List ℕ} {at : ℕ} {r : Step} (k : SeenIs s at r) where
   seen-agree : Agree (byte_at s at) r.ch
   seen-agree = rw k.is (agree s at)
 

@@ -3,12 +3,12 @@ use Rattle.std.specs.Prelude.{◌≡◌, ℕ, ◌+◌, ◌≤◌, ◌<◌, Bool,
 use Rattle.rules.specs.Bytes.{byte_at}
 use Rattle.rules.specs.Characters as ch
 use Rattle.text_chars.specs.declared.Cursor.{Cursor}
-use Rattle.text_scan.specs.declared.Seen.{Seen}
+use Rattle.text_chars.specs.declared.Step.{Step}
 use Rattle.text_scan.specs.declared.Gap.{Gap}
 use Rattle.text_scan.specs.declared.Passed.{Passed}
 
 -- the character at a place and the place after it
-pub record SeenIs (s : List ℕ) (at : ℕ) (r : Seen) : Type 0 where
+pub record SeenIs (s : List ℕ) (at : ℕ) (r : Step) : Type 0 where
   pub is : r.ch ≡ ch.character_at s at
   pub next : r.next.at.0 ≡ ch.next_place s at
   pub forward : at ≤ r.next.at.0

@@ -14,7 +14,7 @@ use Rattle.theory.specs.Walks as by
 use Rattle.text_chars.specs.Cursor.{cur}
 use Rattle.text_chars.specs.declared.Cursor.{Cursor}
 use Rattle.text_scan.specs.Scan.{SeenIs, EndIs, LineByte}
-use Rattle.text_scan.specs.declared.Seen.{Seen}
+use Rattle.text_chars.specs.declared.Step.{Step}
 use Rattle.text_scan.specs.Looks.{byte_next, Ascii, passes-low, byte-test}
 
 -- a walk that goes on to the next character while a test passes
@@ -49,14 +49,14 @@ module _ {walk : List ℕ → ℕ → ℕ} {goes : List ℕ → ℕ → Bool} (w
   pub going_done : {at : ℕ} → Going walk s at p → goes s p.at.0 ≡ false → EndIs s at (walk s at) p
   going_done g e = record { is = sym (g.still ∙ w.off s p.at.0 e); forward = g.forward; inside = g.inside }
 
-  pub going_on : {at : ℕ} {r : Seen} → Going walk s at p → SeenIs s p.at.0 r → goes s p.at.0 ≡ true → Going walk s at r.next
+  pub going_on : {at : ℕ} {r : Step} → Going walk s at p → SeenIs s p.at.0 r → goes s p.at.0 ≡ true → Going walk s at r.next
   going_on g k e = record {
     still = g.still ∙ w.on s p.at.0 e ∙ rw k.next;
     forward = omega arith;
     inside = k.inside;
   }
 
-  pub going_less : {r : Seen} → SeenIs s p.at.0 r → goes s p.at.0 ≡ true → length s - r.next.at.0 < length s - p.at.0
+  pub going_less : {r : Step} → SeenIs s p.at.0 r → goes s p.at.0 ≡ true → length s - r.next.at.0 < length s - p.at.0
   going_less k e = omega (arith, k.next, w.moves s p.at.0 e)
 
 -- ---- the whitespace but newlines
@@ -68,7 +68,7 @@ inline-walk : Walk after_inline inline_goes
 unfolding inline_goes
 inline-walk = record { on = λ s p e. by.inline-on s p e; off = λ s p e. by.inline-off s p e; moves = λ s p e. (inline-moves s p e).1 }
 
-module _ {s : List ℕ} {p : Cursor} {r : Seen} (k : SeenIs s p.at.0 r) {f : Bool} (e : f ≡ is_inline r.ch) where
+module _ {s : List ℕ} {p : Cursor} {r : Step} (k : SeenIs s p.at.0 r) {f : Bool} (e : f ≡ is_inline r.ch) where
   inline-says : {b : Bool} → f ≡ b → inline_goes s p.at.0 ≡ b
   unfolding inline_goes
   inline-says h = ap is_inline (sym k.is) ∙ sym e ∙ h
@@ -93,7 +93,7 @@ line_walk : Walk line_end line_goes
 unfolding line_goes
 line_walk = record { on = λ s p e. by.line_on s p e; off = λ s p e. by.line-off s p e; moves = λ s p e. (line-moves s p e).1 }
 
-module _ {s : List ℕ} {o p : Cursor} (j : Going line_end s o.at.0 p) {r : Seen} (k : SeenIs s p.at.0 r) where
+module _ {s : List ℕ} {o p : Cursor} (j : Going line_end s o.at.0 p) {r : Step} (k : SeenIs s p.at.0 r) where
   line-goes : (r.ch ≡ 10 → ⊥) → (r.ch ≡ no_character → ⊥) → line_goes s p.at.0 ≡ true
   unfolding line_goes
   line-goes n m = rw (← k.is, ne_eqb r.ch 10 n, ne_eqb r.ch no_character m)
@@ -140,7 +140,7 @@ digit-walk = record {
     one : (s : List ℕ) (p : ℕ) → is_digit (byte_at s p) ≡ true → next_place s p ≡ p + 1
     one s p e = byte_next s p (passes-low is_digit digit-ascii (byte_at s p) e)
 
-module _ {s : List ℕ} {p : Cursor} {r : Seen} (k : SeenIs s p.at.0 r) {f : Bool} (e : f ≡ is_digit r.ch) where
+module _ {s : List ℕ} {p : Cursor} {r : Step} (k : SeenIs s p.at.0 r) {f : Bool} (e : f ≡ is_digit r.ch) where
   digit-says : {b : Bool} → f ≡ b → digit_goes s p.at.0 ≡ b
   unfolding digit_goes
   digit-says h = byte-test k is_digit digit-ascii ∙ sym e ∙ h
@@ -183,7 +183,7 @@ module _ {s : List ℕ} {o p : Cursor} (j : Going unquoted_end s o.at.0 p) {f : 
   pub unquoted-done : {at : ℕ} → Going unquoted_end s at o → f ≡ true → EndIs s at (unquoted_end s at) p
   unquoted-done g h = going_done unquoted-walk (going-further g j) (unquoted-says h)
 
-  module _ {r : Seen} (k : SeenIs s p.at.0 r) where
+  module _ {r : Step} (k : SeenIs s p.at.0 r) where
     pub unquoted-on : {at : ℕ} → Going unquoted_end s at o → f ≡ false → Going unquoted_end s at r.next
     unquoted-on g h = going_on unquoted-walk (going-further g j) k (unquoted-says h)
 

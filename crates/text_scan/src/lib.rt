@@ -12,24 +12,14 @@ use codes::{bytes, spaces};
 use text_chars::{Cursor, DocAt, Step};
 
 /// The character at a place, `bytes::NO_CHARACTER` at the end, and the place after it, which at the end is the end.
-#[derive(Clone, Copy)]
-pub struct Seen {
-    pub ch: u32,
-    pub next: Cursor,
-}
-
-/// What stands at a place.
-pub fn look(s: &[u8], c: Cursor) -> Seen
+pub fn look(s: &[u8], c: Cursor) -> Step
     requires { (length s.now ≤ max_document) × (c.at.0 ≤ length s.now) }
     ensures { SeenIs s.now c.at.0 result }
 {
-    match c.step(s) {
-        Step::Char { ch, next } => Seen { ch, next },
-        Step::End => Seen {
-            ch: bytes::NO_CHARACTER,
-            next: c,
-        },
-    }
+    c.step(s).unwrap_or(Step {
+        ch: bytes::NO_CHARACTER,
+        next: c,
+    })
 }
 
 // ---- whitespace, comments, gaps

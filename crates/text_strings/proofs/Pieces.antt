@@ -1,7 +1,7 @@
 -- A piece of a quoted string's body: one law for each answer, and what an answer tells.
 use mathlib.Core.Path.{◌≡◌, refl, sym, ap, ◌∙◌}
 use mathlib.Core.List.{List}
-use Rattle.std.specs.Prelude.{Result, Ok, Err}
+use Rattle.std.specs.Prelude.{Option, Some, None, Result, Ok, Err}
 use Prim.Native.Nat.{ℕ, ◌+◌, ◌-◌, ◌≤◌, ◌<◌}
 use native.Mathlib.Omega.{arith}
 use lib.ListN.{length}
@@ -47,32 +47,32 @@ module _ {s : List ℕ} {at : ℕ} {b a : List ℕ} (kept : length a ≡ length 
     far = f;
   }
 
-module _ {s : List ℕ} {at : ℕ} {r : Step} (h : StepIs s at r) where
-  pub piece_cut : {b : List ℕ} → r ≡ Step.End → PieceIs s at b b (Err (refusal 4 (doc (length s))))
+module _ {s : List ℕ} {at : ℕ} {r : Option Step} (h : StepIs s at r) where
+  pub piece_cut : {b : List ℕ} → r ≡ None → PieceIs s at b b (Err (refusal 4 (doc (length s))))
   unfolding turn_at
   piece_cut e = piece-refusal refl {x = ended s} (rw (le-leb (length s) at (at-end h e), turn_at)) refl refl
 
-  module _ {ch : ℕ} {c : Cursor} (e : r ≡ Step.Char ch c) where
-    z : Seen s at ch c.at.0
+  module _ {t : Step} (e : r ≡ Some t) where
+    z : Seen s at t.ch t.next.at.0
     z = seen h e
 
-    pub piece-close : {b : List ℕ} → ch ≡ 34 → PieceIs s at b b (Ok (Piece.Close c))
+    pub piece-close : {b : List ℕ} → t.ch ≡ 34 → PieceIs s at b b (Ok (Piece.Close t.next))
     unfolding turn_at
     piece-close {b} q =
-        let o : c.at.0 ≡ at + 1 = z.one (omega arith) in
-        let i : turn_at s at ≡ closed c.at.0 =
+        let o : t.next.at.0 ≡ at + 1 = z.one (omega arith) in
+        let i : turn_at s at ≡ closed t.next.at.0 =
         rw (lt-leb (length s) at z.within, seen-eq z 34 (omega arith) q, turn_at) (ap closed (sym o)) in
         record { is = ap piece_of (sym i); bytes = rw i refl; kept = refl; far = (z.forward, z.inside) }
 
-    module _ (n : ch ≡ 34 → ⊥) where
-      pub piece-control : {b : List ℕ} {p : DocAt} → p.0 ≡ at → ch < 32 → PieceIs s at b b (Err (refusal 5 p))
+    module _ (n : t.ch ≡ 34 → ⊥) where
+      pub piece-control : {b : List ℕ} {p : DocAt} → p.0 ≡ at → t.ch < 32 → PieceIs s at b b (Err (refusal 5 p))
       unfolding turn_at
       piece-control w l =
           piece-refusal refl {x = placed 5 at}
           (rw (lt-leb (length s) at z.within, seen-ne z 34 (omega arith) n, seen-lt z 32 (omega arith) l, turn_at)) refl w
 
-      module _ (l : 32 ≤ ch) where
-        module _ (q : ch ≡ 92) {x : Result Quoted Refusal} {b a : List ℕ} (k : EscapeIs s at b a x) where
+      module _ (l : 32 ≤ t.ch) where
+        module _ (q : t.ch ≡ 92) {x : Result Quoted Refusal} {b a : List ℕ} (k : EscapeIs s at b a x) where
           escaped : turn_at s at ≡ turn_of (escape_at s at)
           unfolding turn_at
           escaped =
@@ -86,14 +86,14 @@ module _ {s : List ℕ} {at : ℕ} {r : Step} (h : StepIs s at r) where
 
           pub piece-escape : {v : Quoted} → x ≡ Ok v → PieceIs s at b a (Ok (Piece.More v))
           piece-escape {v} f =
-              let t = text-is k f in
+              let j = text-is k f in
               let g : TextFar (length s) at (Ok v) = rw f at k.far in
-              piece-more k.kept (escaped ∙ ap turn_of t.is) t.size t.laid g
+              piece-more k.kept (escaped ∙ ap turn_of j.is) j.size j.laid g
 
           pub piece-bad : {y : Refusal} → x ≡ Err y → PieceIs s at b a (Err y)
-          piece-bad f = let t = refused-is k f in piece-refusal k.kept (escaped ∙ ap turn_of t.is) t.numbered t.placed
+          piece-bad f = let j = refused-is k f in piece-refusal k.kept (escaped ∙ ap turn_of j.is) j.numbered j.placed
 
-        pub piece-plain : {b a : List ℕ} {m : ℕ} → (ch ≡ 92 → ⊥) → WriteIs (slice at c.at.0 s) b a m → PieceIs s at b a (Ok (Piece.More (quoted c (sized m))))
+        pub piece-plain : {b a : List ℕ} {m : ℕ} → (t.ch ≡ 92 → ⊥) → WriteIs (slice at t.next.at.0 s) b a m → PieceIs s at b a (Ok (Piece.More (quoted t.next (sized m))))
         unfolding turn_at
         piece-plain {b} {a} {m} q w =
             let i : turn_at s at ≡ more (slice at (next_place s at) s) (next_place s at) =
@@ -104,20 +104,20 @@ module _ {s : List ℕ} {at : ℕ} {r : Step} (h : StepIs s at r) where
               seen-ne z 92 (omega arith) q,
               turn_at,
             ) in
-            let long : length (slice at c.at.0 s) ≡ c.at.0 - at = length-slice at c.at.0 s z.inside in
+            let long : length (slice at t.next.at.0 s) ≡ t.next.at.0 - at = length-slice at t.next.at.0 s z.inside in
             piece-more w.kept (i ∙ ap (λ (p : ℕ). more (slice at p s) p) (sym z.past)) w.is w.bytes
             (z.forward, z.inside, omega (arith, w.is, long))
 
-    pub piece-one : ch ≡ 92 → c.at.0 ≡ at + 1
+    pub piece-one : t.ch ≡ 92 → t.next.at.0 ≡ at + 1
     piece-one q = z.one (omega arith)
 
-    pub piece-order : at ≤ c.at.0
+    pub piece-order : at ≤ t.next.at.0
     piece-order = omega (arith, z.forward)
 
-    pub piece_inside : c.at.0 ≤ length s
+    pub piece_inside : t.next.at.0 ≤ length s
     piece_inside = z.inside
 
-    pub piece-room : (b : List ℕ) → length s - at ≤ length b → c.at.0 - at ≤ length b
+    pub piece-room : (b : List ℕ) → length s - at ≤ length b → t.next.at.0 - at ≤ length b
     piece-room b l = omega (arith, z.inside)
 
 pub ruleset pieces = (

@@ -124,22 +124,22 @@ module _ {s : List ℕ} {at₀ at : ℕ} (before : RunLoop s at₀ at) {c : Curs
       let off : (ltb c.at.0 (length s) && not (three_quotes s c.at.0)) ≡ false = rw (lt-ltb c.at.0 (length s) i, z.0) in
       record { says = (sym (I.is ∙ run-off s c.at.0 off), z.0, I.low, i) }
 
-  module _ (f : q ≡ None) {t : Step} (k : StepIs s c.at.0 t) where
-    pub run_end : t ≡ Step.End → RunIs s at₀ None
+  module _ (f : q ≡ None) {m : Option Step} (k : StepIs s c.at.0 m) where
+    pub run_end : m ≡ None → RunIs s at₀ None
     run_end e =
         let p : length s ≤ c.at.0 = at-end k e in
         let off : (ltb c.at.0 (length s) && not (three_quotes s c.at.0)) ≡ false = rw (le-ltb c.at.0 (length s) p) in
         record { says = rw (I.is ∙ run-off s c.at.0 off) p }
 
-    pub run-turn : {ch : ℕ} {d : Cursor} → t ≡ Step.Char ch d → RunLoop s at₀ d.at.0
-    run-turn {ch} {d} e =
+    pub run-turn : {t : Step} → m ≡ Some t → RunLoop s at₀ t.next.at.0
+    run-turn {t} e =
         let z = seen k e in
         let no : ThreeSays s c.at.0 None = rw f at h.says in
         let on : (ltb c.at.0 (length s) && not (three_quotes s c.at.0)) ≡ true = rw (lt-ltb c.at.0 (length s) z.within, no) in
         record { is = I.is ∙ run_on s c.at.0 on ∙ ap (quotes_run s) (sym z.past); low = omega (arith, I.low, z.forward) }
 
-pub step_less : (s : List ℕ) (at : ℕ) {c : Cursor} {t : Step} {ch : ℕ} {d : Cursor} → RawRunIs s at c → StepIs s c.at.0 t → t ≡ Step.Char ch d
-    → length s - d.at.0 < length s - at
+pub step_less : (s : List ℕ) (at : ℕ) {c : Cursor} {m : Option Step} {t : Step} → RawRunIs s at c → StepIs s c.at.0 m → m ≡ Some t
+    → length s - t.next.at.0 < length s - at
 step_less s at r k e = let z = seen k e in omega (arith, r.forward, z.within, z.forward)
 
 pub ruleset runs = (run-start, run-found, run_end, run-turn, step_less)

@@ -32,32 +32,30 @@ fn next_piece(s: &[u8], c: Cursor, out: &mut [u8]) -> Result<Piece, Refusal>
     ensures { PieceIs s.now c.at.0 out.old out.new result }
 {
     let place = c.at;
-    match c.step(s) {
-        Step::End => Err(Refusal {
+    let Some(Step { ch, next }) = c.step(s) else {
+        return Err(Refusal {
             number: refusals::UNEXPECTED_END,
             place: DocAt(s.len()),
-        }),
-        Step::Char { ch, next } => {
-            if ch == bytes::QUOTE {
-                return Ok(Piece::Close(next));
-            }
-            if ch < bytes::FIRST_PRINTABLE {
-                return Err(Refusal {
-                    number: refusals::BAD_NUMBER_OR_STRING,
-                    place,
-                });
-            }
-            if ch == bytes::BACKSLASH {
-                let text = escape(s, next, place, out)?;
-                return Ok(Piece::More(text));
-            }
-            let used = copy(s, place, next.at, out);
-            Ok(Piece::More(Quoted {
-                next,
-                used: TextLen(used),
-            }))
-        }
+        });
+    };
+    if ch == bytes::QUOTE {
+        return Ok(Piece::Close(next));
     }
+    if ch < bytes::FIRST_PRINTABLE {
+        return Err(Refusal {
+            number: refusals::BAD_NUMBER_OR_STRING,
+            place,
+        });
+    }
+    if ch == bytes::BACKSLASH {
+        let text = escape(s, next, place, out)?;
+        return Ok(Piece::More(text));
+    }
+    let used = copy(s, place, next.at, out);
+    Ok(Piece::More(Quoted {
+        next,
+        used: TextLen(used),
+    }))
 }
 
 // The text from behind the first quote on, up to the closing one: runs of ordinary characters, and a piece behind each.

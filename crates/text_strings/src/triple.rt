@@ -6,7 +6,7 @@ ghost use Rattle.text_strings.specs.Clauses.{ThreeIs, RunIs, AfterIs, RawIs};
 
 use codes::{bytes, refusals};
 use text_bytes::copy;
-use text_chars::{Cursor, DocAt, Refusal, Step, TextLen};
+use text_chars::{Cursor, DocAt, Refusal, TextLen};
 use text_escapes::{Quoted, expect};
 use text_runs::raw_end;
 
@@ -38,14 +38,7 @@ fn find_run(s: &[u8], c: Cursor) -> Option<Cursor>
         if let Some(next) = three_quotes(s, quote) {
             return Some(quote);
         }
-        match quote.step(s) {
-            Step::End => {
-                return None;
-            }
-            Step::Char { ch, next } => {
-                at = next;
-            }
-        }
+        at = quote.step(s)?.next;
     }
 }
 

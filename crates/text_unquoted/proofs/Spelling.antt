@@ -15,7 +15,7 @@ use Rattle.rules.specs.Pieces.{word_true, word_false, word_null, starts_with}
 use Rattle.text_chars.specs.declared.Cursor.{Cursor}
 use Rattle.text_scan.specs.Scan.{SeenIs}
 use Rattle.text_unquoted.specs.Clauses.{Spells, SpelledIs, spelled-inside, WordIs}
-use Rattle.text_scan.specs.declared.Seen.{Seen}
+use Rattle.text_chars.specs.declared.Step.{Step}
 use Rattle.text_unquoted.specs.declared.Letters.{Letters}
 use Rattle.text_unquoted.specs.declared.Word.{Word}
 use Rattle.text_scan.specs.Looks.{is_byte, not_byte, ascii-next}
@@ -84,7 +84,7 @@ module _ (s : List ℕ) (at : ℕ) where
 
 -- ---- letters
 
-module _ {s : List ℕ} {at : ℕ} {r : Seen} (k : SeenIs s at r) {a : ℕ} (l : a < 128) where
+module _ {s : List ℕ} {at : ℕ} {r : Step} (k : SeenIs s at r) {a : ℕ} (l : a < 128) where
   pub letter-yes : r.ch ≡ a → SpelledIs (a ∷ []) s at (Letters.Yes r.next)
   letter-yes e = record { is = (starts-one s at a l ∙ is_byte k a l e, ascii-next k (omega arith), k.inside) }
 
@@ -117,7 +117,7 @@ pub ruleset spellings = (arith, spelled-inside, first-no, first-yes)
 -- ---- words
 
 -- a word does not begin with another letter than its first
-module _ {s : List ℕ} {at : ℕ} {r : Seen} (k : SeenIs s at r) where
+module _ {s : List ℕ} {at : ℕ} {r : Step} (k : SeenIs s at r) where
   other-letter : (a : ℕ) (w : Text) → a < 128 → (r.ch ≡ a → ⊥) → starts_with (a ∷ w) s at ≡ false
   other-letter a w l n = starts-cons s at a w ∙ rw (starts-one s at a l ∙ not_byte k a l n)
 

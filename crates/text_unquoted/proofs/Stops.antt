@@ -17,7 +17,7 @@ use Rattle.theory_text.specs.Ascii.{ascii-character}
 use Rattle.text_chars.specs.Clash.{clash}
 use Rattle.text_chars.specs.Cursor.{cur}
 use Rattle.text_scan.specs.Scan.{SeenIs}
-use Rattle.text_scan.specs.declared.Seen.{Seen}
+use Rattle.text_chars.specs.declared.Step.{Step}
 use Rattle.text_scan.specs.Looks.{get_d_any, visible, is_byte, not_byte}
 use Rattle.text_scan.specs.Walks.{Going, going_start, unquoted-byte}
 use Rattle.text_unquoted.specs.Clauses.{Plain, PlainIs}
@@ -191,7 +191,7 @@ pub ruleset runs = (arith, going_start, run-plain)
 
 -- ---- where unquoted text stops
 
-module _ {s : List ℕ} {at : ℕ} {r : Seen} (k : SeenIs s at r) where
+module _ {s : List ℕ} {at : ℕ} {r : Step} (k : SeenIs s at r) where
   pub stops_end : r.ch ≡ no_character → true ≡ stops_unquoted s at
   unfolding stops_unquoted
   stops_end e = let q : character_at s at ≡ no_character = sym k.is ∙ e in simp (q, stops_unquoted)

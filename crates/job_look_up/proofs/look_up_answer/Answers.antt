@@ -10,11 +10,11 @@ returns-then-text-gt-ROOM c = search jobs
 pub returns-then-path-gt-PATH_TEXT : goal.returns-then-path-gt-PATH_TEXT
 returns-then-path-gt-PATH_TEXT c = search jobs
 
-pub returns-in-At : goal.returns-in-At
-returns-in-At c = search jobs
+pub returns-in-Some : goal.returns-in-Some
+returns-in-Some c = search jobs
 
-pub returns-in-Nowhere : goal.returns-in-Nowhere
-returns-in-Nowhere c = search jobs
+pub returns-in-None : goal.returns-in-None
+returns-in-None c = search jobs
 
 pub returns-else-is_whole : goal.returns-else-is_whole
 returns-else-is_whole c = search jobs

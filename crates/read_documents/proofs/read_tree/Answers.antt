@@ -1,8 +1,8 @@
 use Rattle.read_documents.proofs.Trees.{trees}
 use Rattle.read_documents.proofs.read_tree.Goals as goal
 
-pub returns-in-At : goal.returns-in-At
-returns-in-At c = search trees
+pub returns-in-Some : goal.returns-in-Some
+returns-in-Some c = search trees
 
 pub returns-in-Refused : goal.returns-in-Refused
 returns-in-Refused c = search trees

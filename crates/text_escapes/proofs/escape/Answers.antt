@@ -8,19 +8,19 @@ bounds-out-0 c = search escapes
 pub encode-used-requires : goal.encode-used-requires
 encode-used-requires c = search escapes
 
-pub returns-in-End : goal.returns-in-End
-returns-in-End c = search escapes
+pub returns-in_default : goal.returns-in_default
+returns-in_default c = search escapes
 
-pub returns-in-Some : goal.returns-in-Some
-returns-in-Some c = search escapes
+pub returns-in-Some-letter_escape : goal.returns-in-Some-letter_escape
+returns-in-Some-letter_escape c = search escapes
 
-pub returns-in_err-point-in-Char : goal.returns-in_err-point-in-Char
-returns-in_err-point-in-Char c =
+pub returns-in_err-point : goal.returns-in_err-point
+returns-in_err-point c =
     let p = err_from_is_err_and c.from_residual.result c.from_residual.ensures.1 in
-    rw (p.1, p.2) (search (escapes, c.in_err-point-in-Char.was))
+    rw (p.1, p.2) (search (escapes, c.in_err-point.was))
 
 pub returns-then-ch-eq-U : goal.returns-then-ch-eq-U
-returns-then-ch-eq-U c = search (escapes, c.in_ok-point-in-Char.was)
+returns-then-ch-eq-U c = search (escapes, c.in_ok-point.was)
 
-pub returns-else-ch-eq-U : goal.returns-else-ch-eq-U
-returns-else-ch-eq-U c = search escapes
+pub returns : goal.returns
+returns c = search escapes

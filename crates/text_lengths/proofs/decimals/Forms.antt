@@ -19,7 +19,7 @@ use Rattle.text_chars.specs.declared.Cursor.{Cursor}
 use Rattle.text_scan.specs.Scan.{SeenIs, EndIs}
 use Rattle.text_scan.specs.Looks.{is_byte, not_byte, ascii-next}
 use Rattle.text_scan.specs.Walks.{Walk, Going, going_start, going_on, going_done, going_less}
-use Rattle.text_scan.specs.declared.Seen.{Seen}
+use Rattle.text_chars.specs.declared.Step.{Step}
 use Rattle.text_numbers.specs.Clauses.{NumberIs}
 use Rattle.text_numbers.specs.declared.Number.{Number}
 use Rattle.text_lengths.specs.Decimals.Contracts.{decimal_from, DecimalFrom, DecimalIs, UnitIs}
@@ -52,7 +52,7 @@ of-from : (s : List ℕ) (minus : Bool) (first : ℕ) → eqb (byte_at s 0) 45 �
 unfolding decimal_from decimal_of decimal_to
 of-from s minus first e f = rw (← e, ← f)
 
-module _ {s : List ℕ} {seen : Seen} (k : SeenIs s 0 seen) {r : Start} where
+module _ {s : List ℕ} {seen : Step} (k : SeenIs s 0 seen) {r : Start} where
   pub of-minus : seen.ch ≡ 45 → DecimalFrom s true seen.next.at.0 r → DecimalIs s r
   of-minus e d =
       let b : eqb (byte_at s 0) 45 ≡ true = is_byte k 45 (omega arith) e in
@@ -78,7 +78,7 @@ space-walk : Walk after_space space_goes
 unfolding space_goes
 space-walk = record { on = λ s p e. by.space-on s p e; off = λ s p e. by.space-off s p e; moves = λ s p e. (space-moves s p e).1 }
 
-module _ {s : List ℕ} {p : Cursor} {r : Seen} (k : SeenIs s p.at.0 r) {f : Bool} (e : f ≡ is_space r.ch) where
+module _ {s : List ℕ} {p : Cursor} {r : Step} (k : SeenIs s p.at.0 r) {f : Bool} (e : f ≡ is_space r.ch) where
   space-says : {b : Bool} → f ≡ b → space_goes s p.at.0 ≡ b
   unfolding space_goes
   space-says h = ap is_space (sym k.is) ∙ sym e ∙ h

@@ -7,11 +7,11 @@ returns-then-stops_run c = search ones
 pub returns-then-b-lt-NOT_ASCII : goal.returns-then-b-lt-NOT_ASCII
 returns-then-b-lt-NOT_ASCII c = search ones
 
-pub returns-in-Char : goal.returns-in-Char
-returns-in-Char c = search ones
+pub returns-in-Some : goal.returns-in-Some
+returns-in-Some c = search ones
 
-pub returns-in-End : goal.returns-in-End
-returns-in-End c = search ones
+pub returns-in_default : goal.returns-in_default
+returns-in_default c = search ones
 
 pub returns-else-p-s : goal.returns-else-p-s
 returns-else-p-s c = search ones

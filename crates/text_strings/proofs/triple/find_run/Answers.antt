@@ -7,11 +7,11 @@ loop-next-init c = search runs
 pub returns-in-Some : goal.returns-in-Some
 returns-in-Some c = search runs
 
-pub returns-in-End : goal.returns-in-End
-returns-in-End c = search runs
+pub returns-in_err-at : goal.returns-in_err-at
+returns-in_err-at c = rw c.from_residual.ensures (search (runs, c.in_err-at.was))
 
 pub loop-next-smaller : goal.loop-next-smaller
-loop-next-smaller c = search runs
+loop-next-smaller c = search (runs, c.in_ok-at.was)
 
 pub loop-next-preserved : goal.loop-next-preserved
-loop-next-preserved c = search runs
+loop-next-preserved c = search (runs, c.in_ok-at.was)
