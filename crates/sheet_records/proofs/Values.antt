@@ -1,9 +1,10 @@
 -- One law for each answer of the functions that find a value's end from the ends inside it.
+use Rattle.std.specs.Prelude.{Some, None}
 use mathlib.Core.Path.{◌≡◌, refl, sym, ◌∙◌, ap, fun_ext}
 use mathlib.Core.Bool.{Bool, true, false, ◌&&◌}
 use mathlib.Core.List.{List}
 use mathlib.Core.Option.{Option, none, some}
-use Prim.Native.Nat.{ℕ, zero, suc, ◌+◌, ◌-◌, ◌*◌, ◌≤◌, ◌<◌}
+use Prim.Native.Nat.{ℕ, zero, suc, ◌+◌, ◌-◌, ◌≤◌, ◌<◌}
 use native.Mathlib.Omega.{arith}
 use lib.ListN.{length}
 use lib.Dec.{leb, ltb, eqb}
@@ -13,13 +14,12 @@ use Rattle.rules.specs.Sheet.{pair_at}
 use Rattle.rules.specs.LookUp.{after_text, after_members, after_record, after_value, is_whole}
 use Rattle.theory_text.specs.Places.{byte_past}
 use Rattle.text_chars.specs.Cursor.{ByteIs}
-use Rattle.sheet_records.specs.Kinds.Contracts.{rec, PairIs, EndIs, value_start}
+use Rattle.sheet_records.specs.Kinds.Contracts.{End, rec, PairIs, EndIs, value_start}
 use Rattle.sheet_records.specs.Kinds.Kinds.{kind_of, kind-small}
 use Rattle.sheet_records.specs.Clauses.{members_end}
 use Rattle.text_chars.specs.declared.RecAt.{RecAt}
-use Rattle.sheet_records.specs.declared.kinds.End.{End}
 use Rattle.sheet_records.specs.declared.kinds.Kind.{Kind}
-use Rattle.sheet_records.specs.Kinds.Ends.{clash, end-some, end_none, end-as, some_is, none_is, between_is, value-near}
+use Rattle.sheet_records.specs.Kinds.Ends.{clash, end-some, end_none, end-gone, end-as, some_is, none_is, between_is}
 
 -- ---- the rules' record by the code's kinds
 
@@ -92,11 +92,11 @@ module _ (table : List ℕ) (limit at levels : ℕ) {b : ℕ} {k : Kind} (h : By
       value-record levels table limit at ∙ record-by table limit at (inner levels table limit at)
       ∙ ap (record_by table limit at (inner levels table limit at)) (ap kind_of (sym h.is) ∙ sym i)
 
-  pub value-bad : k ≡ Kind.Bad → EndIs (after_value levels table limit at) (at + 1) (length table) End.Nowhere
+  pub value-bad : k ≡ Kind.Bad → EndIs (after_value levels table limit at) (at + 1) (length table) None
   unfolding record_by
   value-bad e = end_none (value-by ∙ rw e)
 
-  pub value-plain : k ≡ Kind.Plain → EndIs (after_value levels table limit at) (at + 1) (length table) (End.At (rec (at + 1)))
+  pub value-plain : k ≡ Kind.Plain → EndIs (after_value levels table limit at) (at + 1) (length table) (Some (rec (at + 1)))
   unfolding record_by
   value-plain e =
       let l : at < length table = byte-in h (kind-small b (λ z. clash (cc))) in
@@ -108,7 +108,7 @@ module _ (table : List ℕ) (limit at levels : ℕ) {b : ℕ} {k : Kind} (h : By
   value-texted e t = end-as (value-by ∙ rw (e, ← h.is)) (omega arith) t
 
   module _ {keyed : Bool} (e : k ≡ Kind.Container keyed) where
-    pub value-deep : levels ≡ 0 → EndIs (after_value levels table limit at) (at + 1) (length table) End.Nowhere
+    pub value-deep : levels ≡ 0 → EndIs (after_value levels table limit at) (at + 1) (length table) None
     unfolding record_by inner
     value-deep z = end_none (value-by ∙ rw (e, z) (none-either (leb (at + 3) (length table))))
       where
@@ -116,7 +116,7 @@ module _ (table : List ℕ) (limit at levels : ℕ) {b : ℕ} {k : Kind} (h : By
         none-either true = refl
         none-either false = refl
 
-    pub value-short : length table < at + 3 → EndIs (after_value levels table limit at) (at + 1) (length table) End.Nowhere
+    pub value-short : length table < at + 3 → EndIs (after_value levels table limit at) (at + 1) (length table) None
     unfolding record_by
     value-short l = end_none (value-by ∙ rw (e, lt-leb (at + 3) (length table) l, record_by))
 
@@ -148,67 +148,53 @@ members-suc true after table limit n at =
     both_is (after_text table limit 8 at) (λ p. elim (after p) [ none ↦ none | some q ↦ rest q ])
     ∙ ap (both (after_text table limit 8 at)) (fun_ext (λ p. both_is (after p) rest))
 
--- So many members are left at a place of all those from the first place on.
-pub record Members (keyed : Bool) (levels : ℕ) (table : List ℕ) (limit count at₀ left at : ℕ) : Type 0 where
-  pub is : members_end keyed levels table limit count at₀ ≡ members_end keyed levels table limit left at
+-- So many members were passed up to a place, of all those from the first place on.
+pub record Members (keyed : Bool) (levels : ℕ) (table : List ℕ) (limit count at₀ passed at : ℕ) : Type 0 where
+  pub is : members_end keyed levels table limit count at₀ ≡ members_end keyed levels table limit (count - passed) at
   pub from : at₀ ≤ at
   pub inside : at ≤ length table
 
-pub members-start : {keyed : Bool} {levels : ℕ} {table : List ℕ} {limit count at : ℕ} → at ≤ length table
-    → Members keyed levels table limit count at count at
-members-start h = record { is = refl; from = omega arith; inside = h }
-
-pub members-end : {keyed : Bool} {levels : ℕ} {table : List ℕ} {limit count at₀ left : ℕ} {here : RecAt}
-    → Members keyed levels table limit count at₀ left here.0 → left ≤ 0
-    → EndIs (members_end keyed levels table limit count at₀) at₀ (length table) (End.At here)
+pub members-end : {keyed : Bool} {levels : ℕ} {table : List ℕ} {limit count at₀ passed : ℕ} {here : RecAt}
+    → Members keyed levels table limit count at₀ passed here.0 → count ≤ passed
+    → EndIs (members_end keyed levels table limit count at₀) at₀ (length table) (Some here)
 unfolding after_members
-members-end {left = left} I z = let e : left ≡ 0 = omega arith in end-some (I.is ∙ rw e) I.from I.inside
+members-end {count = count} {passed = passed} I z = let e : count - passed ≡ 0 = omega arith in end-some (I.is ∙ rw e) I.from I.inside
 
-module _ {keyed : Bool} {levels : ℕ} {table : List ℕ} {limit count at₀ left at : ℕ} (I : Members keyed levels table limit count at₀ left at) where
-  module _ {r : End} (m : 0 < left) (h : EndIs (value_start keyed table limit at) at (length table) r) where
+module _ {keyed : Bool} {levels : ℕ} {table : List ℕ} {limit count at₀ passed at : ℕ} (I : Members keyed levels table limit count at₀ passed at) where
+  module _ {r : End} (m : passed < count) (h : EndIs (value_start keyed table limit at) at (length table) r) where
     one : members_end keyed levels table limit count at₀
-        ≡ both (value_start keyed table limit at) (λ p. both (after_value levels table limit p) (λ q. members_end keyed levels table limit (left - 1) q))
+        ≡ both (value_start keyed table limit at) (λ p. both (after_value levels table limit p) (λ q. members_end keyed levels table limit (count - (passed + 1)) q))
     one =
-        let e : left ≡ suc (left - 1) = omega arith in
+        let e : count - passed ≡ suc (count - (passed + 1)) = omega arith in
         I.is ∙ ap (λ (n : ℕ). members_end keyed levels table limit n at) e
-        ∙ members-suc keyed (λ p. after_value levels table limit p) table limit (left - 1) at
+        ∙ members-suc keyed (λ p. after_value levels table limit p) table limit (count - (passed + 1)) at
 
-    pub members-no-start : r ≡ End.Nowhere → EndIs (members_end keyed levels table limit count at₀) at₀ (length table) End.Nowhere
-    members-no-start e = end_none (one ∙ rw (none_is h e))
+    pub members-no-start : {q : End} → r ≡ None → q ≡ None → EndIs (members_end keyed levels table limit count at₀) at₀ (length table) q
+    members-no-start e n = end-gone (one ∙ rw (none_is h e)) n
 
-    module _ {v : RecAt} (e : r ≡ End.At v) {r' : End} (k : EndIs (after_value levels table limit v.0) (v.0 + 1) (length table) r') where
-      pub members-no-value : r' ≡ End.Nowhere → EndIs (members_end keyed levels table limit count at₀) at₀ (length table) End.Nowhere
-      members-no-value z = end_none (one ∙ rw (some_is h e, none_is k z))
+    module _ {v : RecAt} (e : r ≡ Some v) {r' : End} (k : EndIs (after_value levels table limit v.0) (v.0 + 1) (length table) r') where
+      pub members-no-value : {q : End} → r' ≡ None → q ≡ None → EndIs (members_end keyed levels table limit count at₀) at₀ (length table) q
+      members-no-value z n = end-gone (one ∙ rw (some_is h e, none_is k z)) n
 
-      pub members-next : {q : RecAt} → r' ≡ End.At q → Members keyed levels table limit count at₀ (left - 1) q.0
+      pub members-next : {q : RecAt} → r' ≡ Some q → Members keyed levels table limit count at₀ (passed + 1) q.0
       members-next {q} z =
           let b = between_is h e in
           let c = between_is k z in
           record { is = one ∙ rw (some_is h e, some_is k z); from = omega (arith, I.from); inside = c.1 }
 
--- what the needs on numbers ask
-pub value-less : {o : Option ℕ} (table : List ℕ) {at₀ at : ℕ} {r : End} {v : RecAt} (t : ℕ) → EndIs o at (length table) r → r ≡ End.At v
-    → at₀ ≤ at → 2 * (length table - at₀) + 1 ≡ t → 2 * (length table - v.0) < t
-value-less table t h e f m = let b = between_is h e in omega arith
-
--- a member takes a byte at least
-pub member-less : {o o' : Option ℕ} (table : List ℕ) {at : ℕ} {r r' : End} {v q : RecAt} → EndIs o at (length table) r → r ≡ End.At v
-    → EndIs o' (v.0 + 1) (length table) r' → r' ≡ End.At q → length table - q.0 < length table - at
-member-less table h e k z = let b = between_is h e in let c = between_is k z in omega arith
-
 -- ---- whole tables
 
 module _ (table : List ℕ) (limit : ℕ) {r : End} (h : EndIs (after_value 32 table limit 0) 1 (length table) r) where
-  pub whole-none : r ≡ End.Nowhere → false ≡ is_whole table limit
+  pub whole-none : r ≡ None → false ≡ is_whole table limit
   unfolding is_whole
   whole-none e = rw (none_is h e, is_whole)
 
-  pub whole-end : {e : RecAt} → r ≡ End.At e → eqb e.0 (length table) ≡ is_whole table limit
+  pub whole-end : {e : RecAt} → r ≡ Some e → eqb e.0 (length table) ≡ is_whole table limit
   unfolding is_whole
   whole-end {e} k = rw (some_is h k, is_whole)
 
 pub ruleset values = (value-bad, value-plain, value-texted, value-deep, value-short, value-container)
 
-pub ruleset members = (members-start, members-end, members-no-start, members-no-value, members-next, value-near, value-less, member-less)
+pub ruleset members = (members-end, members-no-start, members-no-value, members-next)
 
 pub ruleset wholes = (whole-none, whole-end)

@@ -20,15 +20,6 @@ pub const OBJECT: u32 = kinds::OBJECT as u32;
 
 pub const KEY: u32 = kinds::KEY as u32;
 
-/// The place after a record or some, if they are whole.
-#[derive(Clone, Copy)]
-pub enum End {
-    /// They end here.
-    At(RecAt),
-    /// One of them is cut off, of no kind, too deep, or has its text outside the text part.
-    Nowhere,
-}
-
 /// What a value's record has behind its kind.
 #[derive(Clone, Copy)]
 pub enum Kind {
@@ -68,24 +59,25 @@ pub fn text_pair(texts: &[u8], at: TextAt) -> usize
     two_bytes(text_byte(texts, at), text_byte(texts, TextAt(p + 1)))
 }
 
-/// The end of a record of this kind that refers to a text, the text inside the text part.
-pub fn after_text(table: &[u8], limit: TextLen, kind: u32, at: RecAt) -> End
+/// The place after a record of this kind that refers to a text; none where it is cut off, of another kind, or has its text outside the
+/// text part.
+pub fn after_text(table: &[u8], limit: TextLen, kind: u32, at: RecAt) -> Option<RecAt>
     requires { Lent table.now at.0 }
     ensures { EndIs (after_text table.now limit.0 kind at.0) (at.0 + 1) (length table.now) result }
 {
     let p = at.0;
     if table.len() < p + 5 {
-        return End::Nowhere;
+        return None;
     }
     if record_byte(table, at) == kind {
         let to = pair_at(table, RecAt(p + 1)) + pair_at(table, RecAt(p + 3));
         let n = limit.0;
         if n < to {
-            return End::Nowhere;
+            return None;
         }
-        End::At(RecAt(p + 5))
+        Some(RecAt(p + 5))
     } else {
-        End::Nowhere
+        None
     }
 }
 
@@ -109,13 +101,13 @@ pub fn kind_of(b: u32) -> Kind
 }
 
 /// Where a member's value starts: of an object behind its key.
-pub fn value_start(table: &[u8], limit: TextLen, keyed: bool, at: RecAt) -> End
+pub fn value_start(table: &[u8], limit: TextLen, keyed: bool, at: RecAt) -> Option<RecAt>
     requires { (length table.now ≤ max_room) × (at.0 ≤ length table.now) }
     ensures { EndIs (value_start keyed table.now limit.0 at.0) at.0 (length table.now) result }
 {
     if keyed {
         after_text(table, limit, KEY, at)
     } else {
-        End::At(at)
+        Some(at)
     }
 }

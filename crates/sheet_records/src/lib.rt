@@ -11,29 +11,30 @@ ghost use Rattle.rules.specs.LookUp.{after_value, is_whole, text_at, member_from
 ghost use Rattle.sheet_records.specs.Kinds.Contracts.{near_room, EndIs};
 ghost use Rattle.sheet_records.specs.Clauses.{near_member, past_member, members_end};
 
-use crate::kinds::{End, Kind, after_text, kind_of, pair_at, value_start};
+use crate::kinds::{Kind, after_text, kind_of, pair_at, value_start};
 use codes::limits;
 use text_bytes::same_text;
 use text_chars::{RecAt, TextAt, TextLen, record_byte};
 
-/// The end of the value at a place, found from the ends of those inside it; so many containers may stand inside one another.
+/// The end of the value at a place, found from the ends of those inside it; so many containers may stand inside one another. There is
+/// none where a record is cut off, of no kind, too deep, or has its text outside the text part.
 #[cycle(members_end_value_end)]
-pub fn value_end(table: &[u8], limit: TextLen, at: RecAt, levels: usize) -> End
+pub fn value_end(table: &[u8], limit: TextLen, at: RecAt, levels: usize) -> Option<RecAt>
     requires { (length table.now ≤ max_room) × (at.0 ≤ near_room) × (levels ≤ max_nesting) }
     ensures { EndIs (after_value levels table.now limit.0 at.0) (at.0 + 1) (length table.now) result }
 {
     let p = at.0;
     let b = record_byte(table, at);
     match kind_of(b) {
-        Kind::Bad => End::Nowhere,
-        Kind::Plain => End::At(RecAt(p + 1)),
+        Kind::Bad => None,
+        Kind::Plain => Some(RecAt(p + 1)),
         Kind::Texted => after_text(table, limit, b, at),
         Kind::Container { keyed } => {
             if levels == 0 {
-                return End::Nowhere;
+                return None;
             }
             if table.len() < p + 3 {
-                return End::Nowhere;
+                return None;
             }
             let count = pair_at(table, RecAt(p + 1));
             members_end(table, limit, keyed, count, RecAt(p + 3), levels - 1)
@@ -51,29 +52,16 @@ fn members_end(
     count: usize,
     at: RecAt,
     levels: usize,
-) -> End
+) -> Option<RecAt>
     requires { (length table.now ≤ max_room) × (at.0 ≤ length table.now) × (levels ≤ max_nesting) }
     ensures { EndIs (members_end keyed levels table.now limit.0 count at.0) at.0 (length table.now) result }
 {
     let mut here = at;
-    let mut left = count;
-    while 0 < left {
-        match value_start(table, limit, keyed, here) {
-            End::Nowhere => {
-                return End::Nowhere;
-            }
-            End::At(value) => match value_end(table, limit, value, levels) {
-                End::Nowhere => {
-                    return End::Nowhere;
-                }
-                End::At(next) => {
-                    here = next;
-                    left -= 1;
-                }
-            },
-        }
+    for _ in 0..count {
+        let value = value_start(table, limit, keyed, here)?;
+        here = value_end(table, limit, value, levels)?;
     }
-    End::At(here)
+    Some(here)
 }
 
 /// Whether a table is one whole value with nothing after it.
@@ -82,11 +70,8 @@ pub fn is_whole(table: &[u8], limit: TextLen) -> bool
     ensures { result ≡ is_whole table.now limit.0 }
 {
     match value_end(table, limit, RecAt(0), limits::NESTING) {
-        End::Nowhere => false,
-        End::At(end) => {
-            let e = end.0;
-            e == table.len()
-        }
+        None => false,
+        Some(end) => end.0 == table.len(),
     }
 }
 
@@ -102,35 +87,26 @@ fn refers_to(table: &[u8], text: &[u8], key: &[u8], at: RecAt) -> bool
 }
 
 // The first value with this key among so many members.
-fn member_from(table: &[u8], text: &[u8], key: &[u8], count: usize, at: RecAt) -> End
+fn member_from(table: &[u8], text: &[u8], key: &[u8], count: usize, at: RecAt) -> Option<RecAt>
     requires { (length table.now ≤ max_room) × (length text.now ≤ max_room) × (at.0 ≤ length table.now + 2) }
     ensures { EndIs (member_from count table.now text.now key.now at.0) at.0
         (past_member table.now) result }
 {
     let limit = TextLen(text.len());
     let mut here = at;
-    let mut left = count;
-    while 0 < left {
+    for _ in 0..count {
         let p = here.0;
         if refers_to(table, text, key, here) {
-            return End::At(RecAt(p + 5));
+            return Some(RecAt(p + 5));
         }
-        match value_end(table, limit, RecAt(p + 5), limits::NESTING) {
-            End::Nowhere => {
-                return End::Nowhere;
-            }
-            End::At(next) => {
-                here = next;
-                left -= 1;
-            }
-        }
+        here = value_end(table, limit, RecAt(p + 5), limits::NESTING)?;
     }
     // No member has the key.
-    End::Nowhere
+    None
 }
 
 /// The place of a key's value in the object at a place, of the first of equal keys.
-pub fn member(table: &[u8], text: &[u8], key: &[u8], at: RecAt) -> End
+pub fn member(table: &[u8], text: &[u8], key: &[u8], at: RecAt) -> Option<RecAt>
     requires { (length table.now ≤ max_room) × (length text.now ≤ max_room) × (at.0 ≤ near_room) }
     ensures { EndIs (member_at table.now text.now key.now at.0) (at.0 + 1)
         (past_member table.now) result }
@@ -140,5 +116,5 @@ pub fn member(table: &[u8], text: &[u8], key: &[u8], at: RecAt) -> End
         let count = pair_at(table, RecAt(p + 1));
         return member_from(table, text, key, count, RecAt(p + 3));
     }
-    End::Nowhere
+    None
 }

@@ -1,4 +1,5 @@
 -- One law for each answer.
+use Rattle.std.specs.Prelude.{Some, None}
 use mathlib.Core.Path.{◌≡◌, refl, sym, ◌∙◌, ap}
 use mathlib.Core.Bool.{Bool, true, false}
 use mathlib.Core.List.{List}
@@ -14,20 +15,19 @@ use Rattle.rules.specs.LookUp.{text_at}
 use Rattle.theory_text.specs.Places.{byte_past}
 use Rattle.text_chars.specs.Cursor.{ByteIs}
 use Rattle.text_chars.specs.declared.RecAt.{RecAt}
-use Rattle.sheet_records.specs.Kinds.Contracts.{near_room, rec, PairIs, EndIs}
+use Rattle.sheet_records.specs.Kinds.Contracts.{End, near_room, rec, PairIs, EndIs}
 use Rattle.sheet_records.specs.Kinds.Kinds.{kind_of, kind-small}
-use Rattle.sheet_records.specs.declared.kinds.End.{End}
 use Rattle.sheet_records.specs.declared.kinds.Kind.{Kind}
-use Rattle.sheet_records.specs.Kinds.Ends.{clash, end-some, end_none, end-as, some_is, none_is, between_is}
+use Rattle.sheet_records.specs.Kinds.Ends.{clash, end-some, end_none, end-gone, end-as, some_is, none_is, between_is}
 use Rattle.table_records.specs.Skips.{ends_at, skip_by, skip_value, member_from, member_at, past_key}
 
 -- ---- an end
 
-pub ends-past : (table : List ℕ) (end : ℕ) → length table < end → EndIs (ends_at table end) end (length table) End.Nowhere
+pub ends-past : (table : List ℕ) (end : ℕ) → length table < end → EndIs (ends_at table end) end (length table) None
 unfolding ends_at
 ends-past table end h = end_none (rw (ends_at, lt-leb end (length table) h) refl)
 
-pub ends_there : (table : List ℕ) (end : ℕ) → end ≤ length table → EndIs (ends_at table end) end (length table) (End.At (rec end))
+pub ends_there : (table : List ℕ) (end : ℕ) → end ≤ length table → EndIs (ends_at table end) end (length table) (Some (rec end))
 unfolding ends_at
 ends_there table end h = end-some (rw (ends_at, le-leb end (length table) h) refl) (omega arith) h
 
@@ -48,11 +48,11 @@ module _ (table : List ℕ) (at : ℕ) {b : ℕ} {k : Kind} (h : ByteIs table at
   unfolding skip_value
   by_kind = ap (skip_by table at) (ap kind_of (sym h.is) ∙ sym i)
 
-  pub skip-bad : k ≡ Kind.Bad → EndIs (skip_value table at) (at + 1) (length table) End.Nowhere
+  pub skip-bad : k ≡ Kind.Bad → EndIs (skip_value table at) (at + 1) (length table) None
   unfolding skip_by
   skip-bad e = end_none (by_kind ∙ rw e)
 
-  pub skip-plain : k ≡ Kind.Plain → EndIs (skip_value table at) (at + 1) (length table) (End.At (rec (at + 1)))
+  pub skip-plain : k ≡ Kind.Plain → EndIs (skip_value table at) (at + 1) (length table) (Some (rec (at + 1)))
   unfolding skip_by
   skip-plain e =
       let l : at < length table = byte_inside h (kind-small b (λ z. clash (cc))) in
@@ -83,45 +83,42 @@ refers table text key at f l e = e ∙ rw (f.is, l.is)
 
 pub ruleset keys = (refers)
 
--- so many members are left at a place, none before it with the key
-pub record Seeking (table text key : List ℕ) (count at₀ left at : ℕ) : Type 0 where
-  pub is : member_from count table text key at₀ ≡ member_from left table text key at
+-- so many members were passed up to a place, none of them with the key
+pub record Seeking (table text key : List ℕ) (count at₀ passed at : ℕ) : Type 0 where
+  pub is : member_from count table text key at₀ ≡ member_from (count - passed) table text key at
   pub from : at₀ ≤ at
   pub near : at ≤ length table + 4
 
-pub seek-start : {table text key : List ℕ} {count at : ℕ} → at ≤ length table + 4 → Seeking table text key count at count at
-seek-start h = record { is = refl; from = omega arith; near = h }
-
-module _ {table text key : List ℕ} {count at₀ left at : ℕ} (S : Seeking table text key count at₀ left at) where
-  pub seek-end : left ≤ 0 → EndIs (member_from count table text key at₀) at₀ (past_key table) End.Nowhere
+module _ {table text key : List ℕ} {count at₀ passed at : ℕ} (S : Seeking table text key count at₀ passed at) where
+  pub seek-end : count ≤ passed → EndIs (member_from count table text key at₀) at₀ (past_key table) None
   unfolding member_from
-  seek-end z = let e : left ≡ 0 = omega arith in end_none (S.is ∙ rw e)
+  seek-end z = let e : count - passed ≡ 0 = omega arith in end_none (S.is ∙ rw e)
 
-  module _ {f : Bool} (m : 0 < left) (h : f ≡ same (text_at table text at) key) where
-    one_more : member_from count table text key at₀ ≡ member_from (suc (left - 1)) table text key at
-    one_more = let e : left ≡ suc (left - 1) = omega arith in S.is ∙ ap (λ (n : ℕ). member_from n table text key at) e
+  module _ {f : Bool} (m : passed < count) (h : f ≡ same (text_at table text at) key) where
+    one_more : member_from count table text key at₀ ≡ member_from (suc (count - (passed + 1))) table text key at
+    one_more = let e : count - passed ≡ suc (count - (passed + 1)) = omega arith in S.is ∙ ap (λ (n : ℕ). member_from n table text key at) e
 
-    pub seek_found : f ≡ true → EndIs (member_from count table text key at₀) at₀ (past_key table) (End.At (rec (at + 5)))
+    pub seek_found : f ≡ true → EndIs (member_from count table text key at₀) at₀ (past_key table) (Some (rec (at + 5)))
     unfolding member_from
     seek_found e = end-some (one_more ∙ rw (← h, e, member_from)) (omega (arith, S.from)) (omega (arith, S.near))
 
     module _ (e : f ≡ false) {r : End} (k : EndIs (skip_value table (at + 5)) (at + 5 + 1) (length table) r) where
-      pub seek-broken : r ≡ End.Nowhere → EndIs (member_from count table text key at₀) at₀ (past_key table) End.Nowhere
+      pub seek-broken : {q : End} → r ≡ None → q ≡ None → EndIs (member_from count table text key at₀) at₀ (past_key table) q
       unfolding member_from
-      seek-broken z = end_none (one_more ∙ rw (← h, e, none_is k z, member_from))
+      seek-broken z n = end-gone (one_more ∙ rw (← h, e, none_is k z, member_from)) n
 
-      pub seek-next : {q : RecAt} → r ≡ End.At q → Seeking table text key count at₀ (left - 1) q.0
+      pub seek-next : {q : RecAt} → r ≡ Some q → Seeking table text key count at₀ (passed + 1) q.0
       unfolding member_from
       seek-next {q} z =
           let b = between_is k z in
           record { is = one_more ∙ rw (← h, e, some_is k z, member_from); from = omega (arith, S.from); near = omega arith }
 
-pub ruleset seeks = (seek-start, seek-end, seek_found, seek-broken, seek-next)
+pub ruleset seeks = (seek-end, seek_found, seek-broken, seek-next)
 
 -- ---- an object
 
 module _ (table text key : List ℕ) (at : ℕ) {b : ℕ} (h : ByteIs table at b) where
-  pub member-none : (b ≡ 7 → ⊥) → EndIs (member_at table text key at) (at + 1) (past_key table) End.Nowhere
+  pub member-none : (b ≡ 7 → ⊥) → EndIs (member_at table text key at) (at + 1) (past_key table) None
   unfolding member_at
   member-none n = end_none (rw (← h.is, ne_eqb b 7 n, member_at))
 

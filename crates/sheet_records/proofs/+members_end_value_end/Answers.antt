@@ -1,24 +1,14 @@
-use Rattle.sheet_records.proofs.Values.{members}
-use Rattle.sheet_records.proofs.Values.{values}
+use Rattle.sheet_records.proofs.Values.{members, values}
 use Rattle.sheet_records.proofs.+members_end_value_end.Goals as goal
 
-pub members_end-loop-left-init : goal.members_end-loop-left-init
-members_end-loop-left-init t c = search members
+pub members_end-returns-in_err-value : goal.members_end-returns-in_err-value
+members_end-returns-in_err-value t c = search (members, c.in_err-value.was)
 
-pub members_end-returns-in-Nowhere : goal.members_end-returns-in-Nowhere
-members_end-returns-in-Nowhere t c = search members
+pub members_end-returns-in_err-here : goal.members_end-returns-in_err-here
+members_end-returns-in_err-here t c = search (members, c.in_ok-value.was, c.in_err-here.was)
 
-pub members_end-value_end-requires : goal.members_end-value_end-requires
-members_end-value_end-requires t c = search members
-
-pub members_end-returns-in-Nowhere-value_end : goal.members_end-returns-in-Nowhere-value_end
-members_end-returns-in-Nowhere-value_end t c = search members
-
-pub members_end-loop-left-smaller : goal.members_end-loop-left-smaller
-members_end-loop-left-smaller t c = search members
-
-pub members_end-loop-left-preserved : goal.members_end-loop-left-preserved
-members_end-loop-left-preserved t c = search members
+pub members_end-loop-preserved : goal.members_end-loop-preserved
+members_end-loop-preserved t c = search (members, c.in_ok-value.was, c.in_ok-here.was)
 
 pub members_end-returns : goal.members_end-returns
 members_end-returns t c = search members

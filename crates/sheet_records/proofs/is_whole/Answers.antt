@@ -1,8 +1,8 @@
 use Rattle.sheet_records.proofs.Values.{wholes}
 use Rattle.sheet_records.proofs.is_whole.Goals as goal
 
-pub returns-in-Nowhere : goal.returns-in-Nowhere
-returns-in-Nowhere c = search wholes
+pub returns-in-None : goal.returns-in-None
+returns-in-None c = search wholes
 
-pub returns-in-At : goal.returns-in-At
-returns-in-At c = search wholes
+pub returns-in-Some : goal.returns-in-Some
+returns-in-Some c = search wholes

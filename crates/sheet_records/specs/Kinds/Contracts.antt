@@ -1,12 +1,12 @@
 -- What the functions on one record promise, by the rules' definitions.
-use Rattle.std.specs.Prelude.{◌≡◌, ℕ, ◌≤◌, Bool, true, false, List, length}
+use Rattle.std.specs.Prelude.{◌≡◌, ℕ, ◌≤◌, Bool, true, false, List, length, Some, None}
 use Rattle.std.proofs.Math.Option.{Option, none, some}
 use Rattle.rules.specs.Sizes.{max_room}
 use Rattle.rules.specs.Sheet.{pair_at}
 use Rattle.rules.specs.LookUp.{after_text}
 use Rattle.text_chars.specs.declared.RecAt.{RecAt}
 use Rattle.text_chars.specs.declared.RecLen.{RecLen}
-use Rattle.sheet_records.specs.declared.kinds.End.{End}
+use Rattle.std.specs.declared.option.Option as R
 
 -- Places in a lent part, and some past its end: whatever a record promises, the places asked next are at most a record's few bytes
 -- further, and their sums do not wrap.
@@ -35,14 +35,18 @@ rec at = record { 0 = at }
 abbrev pub rec_len : ℕ → RecLen
 rec_len n = record { 0 = n }
 
+-- the place after a record or some, if they are whole; else one of them is cut off, of no kind, too deep, or has its text outside the text part
+abbrev pub End : Type 0
+End = R.Option RecAt
+
 -- the code's answer for the rules'
 abbrev pub end_at : Option ℕ → End
-end_at none = End.Nowhere
-end_at (some p) = End.At (rec p)
+end_at none = None
+end_at (some p) = Some (rec p)
 
 abbrev pub Between : ℕ → ℕ → End → Type 0
-Between low high (End.At e) = (low ≤ e.0) × (e.0 ≤ high)
-Between low high End.Nowhere = Unit {0}
+Between low high (Some e) = (low ≤ e.0) × (e.0 ≤ high)
+Between low high None = Unit {0}
 
 -- an end as the rules have it, from the one place to the other
 pub record EndIs (o : Option ℕ) (low high : ℕ) (r : End) : Type 0 where
