@@ -2,6 +2,7 @@
 use mathlib.Core.Path.{◌≡◌, refl, sym, ◌∙◌, ap}
 use mathlib.Core.Bool.{Bool, true, false, ◌||◌}
 use mathlib.Core.List.{List, ◌++◌}
+use Rattle.std.specs.Prelude.{Result, Ok, Err}
 use Prim.Native.Nat.{ℕ, ◌-◌, ◌≤◌, ◌<◌}
 use native.Mathlib.Omega.{arith}
 use lib.ListN.{length, drop}
@@ -11,12 +12,12 @@ use lib.Dec.{eqb}
 use Rattle.rules.specs.Bytes.{byte_at}
 use Rattle.rules.specs.Numbers.{is_digit, after_number}
 use Rattle.rules.specs.Strings.{quoted_at}
-use Rattle.rules.specs.Refusals.{Refusal, number_of, place_of, Scan, ok, refused, and_then}
+use Rattle.rules.specs.Refusals.{Refusal as Refusing, number_of, place_of, Scan, ok, refused, and_then}
 use Rattle.rules.specs.Tree.{Scalar, null, boolean, number, string}
 use Rattle.rules.specs.Pieces.{Token, token, starts_with, word_true, word_false, word_null, unquoted_at, number_at, simple_at, scalar_text}
 use Rattle.theory_text.specs.Choices.{by-test, by-option}
-use Rattle.text_chars.specs.Cursor.{doc, cur}
-use Rattle.text_chars.specs.declared.DocAt.{DocAt}
+use Rattle.text_chars.specs.Cursor.{doc, cur, refusal}
+use Rattle.text_chars.specs.declared.Refusal.{Refusal}
 use Rattle.text_chars.specs.declared.TextLen.{TextLen}
 use Rattle.text_chars.specs.declared.Cursor.{Cursor}
 use Rattle.text_bytes.specs.Clauses.{WriteIs}
@@ -45,7 +46,6 @@ abbrev Bare : Piece → Cursor → ℕ → Type 0
 Bare (Piece.Quoted c u) d k = ⊥
 Bare (Piece.Unquoted c) d k = (c ≡ d) × (k ≡ 5)
 Bare (Piece.Plain n c) d k = (c ≡ d) × (k ≡ n)
-Bare (Piece.Refused n p) d k = ⊥
 
 bare-scalar : (x : Scalar) (end : ℕ) (c : Cursor) (k : ℕ) → Bare (of_scalar x end) c k → (end ≡ c.at.0) × (k ≡ code_of x)
 bare-scalar null end c k b = (ap (λ (y : Cursor). y.at.0) b.0, b.1)
@@ -54,10 +54,10 @@ bare-scalar (boolean false) end c k b = (ap (λ (y : Cursor). y.at.0) b.0, b.1)
 bare-scalar (number t) end c k b = (ap (λ (y : Cursor). y.at.0) b.0, b.1)
 bare-scalar (string t) end c k b = (ap (λ (y : Cursor). y.at.0) b.0, b.1)
 
-bare-inv : (m : Scan Token) (r : Piece) (c : Cursor) (k : ℕ) → r ≡ piece_of m → Bare r c k
+bare-inv : (m : Scan Token) (r : Piece) (c : Cursor) (k : ℕ) → Ok r ≡ piece_of m → Bare r c k
     → (t : Token) × (m ≡ ok t c.at.0) × (t.in_quotes ≡ false) × (k ≡ code_of t.scalar)
-bare-inv (refused x) r c k e b = absurd (rw e at b)
-bare-inv (ok t end) r c k e b = go t.in_quotes refl (rw e at b)
+bare-inv (refused x) r c k e b = clash (cc)
+bare-inv (ok t end) r c k e b = let i : r ≡ of_token t.in_quotes t.scalar end = cc in go t.in_quotes refl (rw i at b)
   where
     go : (q : Bool) → t.in_quotes ≡ q → Bare (of_token q t.scalar end) c k
         → (t' : Token) × (ok t end ≡ ok t' c.at.0) × (t'.in_quotes ≡ false) × (k ≡ code_of t'.scalar)
@@ -69,7 +69,6 @@ abbrev Text : Piece → Type 0
 Text (Piece.Quoted c u) = ⊥
 Text (Piece.Unquoted c) = Unit {0}
 Text (Piece.Plain n c) = Unit {0}
-Text (Piece.Refused n p) = ⊥
 
 text-scalar : (x : Scalar) (end : ℕ) → Text (of_scalar x end)
 text-scalar null end = tt
@@ -78,22 +77,17 @@ text-scalar (boolean false) end = tt
 text-scalar (number t) end = tt
 text-scalar (string t) end = tt
 
-refused-inv : (m : Scan Token) (n : ℕ) (d : DocAt) → Piece.Refused n d ≡ piece_of m
-    → (x : Refusal) × (m ≡ refused x) × (n ≡ number_of x) × (d.0 ≡ place_of x)
-refused-inv (refused x) n d e =
-    let i : n ≡ number_of x = cc in
-    let j : d ≡ doc (place_of x) = cc in
-    (x, refl, i, ap (λ (y : DocAt). y.0) j)
-refused-inv (ok t end) n d e = go t.in_quotes e
-  where
-    go : (q : Bool) → Piece.Refused n d ≡ of_token q t.scalar end → (x : Refusal) × (ok t end ≡ refused x) × (n ≡ number_of x) × (d.0 ≡ place_of x)
-    go true z = clash (cc)
-    go false z = absurd (rw (← z) at (text-scalar t.scalar end))
+refused-inv : (m : Scan Token) (y : Refusal) → Err y ≡ piece_of m
+    → (x : Refusing) × (m ≡ refused x) × (y.number ≡ number_of x) × (y.place.0 ≡ place_of x)
+refused-inv (refused x) y e =
+    let i : y ≡ refusal (number_of x) (doc (place_of x)) = cc in
+    (x, refl, ap (λ (z : Refusal). z.number) i, ap (λ (z : Refusal). z.place.0) i)
+refused-inv (ok t end) y e = clash (cc)
 
-quoted-inv : (m : Scan Token) (c : Cursor) (u : TextLen) → Piece.Quoted c u ≡ piece_of m
+quoted-inv : (m : Scan Token) (c : Cursor) (u : TextLen) → Ok (Piece.Quoted c u) ≡ piece_of m
     → (t : Token) × (m ≡ ok t c.at.0) × (t.in_quotes ≡ true) × (u.0 ≡ length (scalar_text t.scalar))
 quoted-inv (refused x) c u e = clash (cc)
-quoted-inv (ok t end) c u e = go t.in_quotes refl e
+quoted-inv (ok t end) c u e = go t.in_quotes refl (cc)
   where
     go : (q : Bool) → t.in_quotes ≡ q → Piece.Quoted c u ≡ of_token q t.scalar end
         → (t' : Token) × (ok t end ≡ ok t' c.at.0) × (t'.in_quotes ≡ true) × (u.0 ≡ length (scalar_text t'.scalar))
@@ -125,9 +119,9 @@ stringed s at =
 
 -- ---- the answers
 
-module _ {s : List ℕ} {at : ℕ} {before mid : List ℕ} {r : Piece} (a : PieceAsked s at before) (k : PieceIs (simple_at s at) s at before mid r) where
-  pub scalar-refused : {n : ℕ} {d : DocAt} → r ≡ Piece.Refused n d → ScalarIs s at before mid (ScalarRead.Refused n d)
-  scalar-refused {n} {d} e = record { is = refused-inv (simple_at s at) n d (sym e ∙ k.is); kept = k.kept }
+module _ {s : List ℕ} {at : ℕ} {before mid : List ℕ} {r : Result Piece Refusal} (a : PieceAsked s at before) (k : PieceIs (simple_at s at) s at before mid r) where
+  pub scalar-refused : {x : Refusal} → r ≡ Err x → ScalarIs s at before mid (ScalarRead.Refused x.number x.place)
+  scalar-refused {x} e = record { is = refused-inv (simple_at s at) x (sym e ∙ k.is); kept = k.kept }
 
   laid-quoted : (t : Token) (end : ℕ) → simple_at s at ≡ ok t end → t.in_quotes ≡ true
       → mid ≡ scalar_text t.scalar ++ drop (length (scalar_text t.scalar)) before
@@ -138,9 +132,10 @@ module _ {s : List ℕ} {at : ℕ} {before mid : List ℕ} {r : Piece} (a : Piec
       go true z h = h
       go false z h = clash (cc)
 
-  pub scalar-quoted : {c : Cursor} {u : TextLen} → r ≡ Piece.Quoted c u → ScalarIs s at before mid (ScalarRead.Done 5 c u)
-  scalar-quoted {c} {u} e =
-      let m : Moved (length s) at (Piece.Quoted c u) = rw e at k.moved in
+  pub scalar-quoted : {x : Piece} {c : Cursor} {u : TextLen} → r ≡ Ok x → x ≡ Piece.Quoted c u → ScalarIs s at before mid (ScalarRead.Done 5 c u)
+  scalar-quoted {x} {c} {u} i' j =
+      let e : r ≡ Ok (Piece.Quoted c u) = i' ∙ ap Ok j in
+      let m : Moved (length s) at (Ok (Piece.Quoted c u)) = rw e at k.moved in
       let (t, i, f, l) = quoted-inv (simple_at s at) c u (sym e ∙ k.is) in
       let w = scalar_text t.scalar in
       let five : Stringed (ok t c.at.0) = rw i at (stringed s at) in
@@ -159,34 +154,39 @@ module _ {s : List ℕ} {at : ℕ} {before mid : List ℕ} {r : Piece} (a : Piec
       }
 
   -- a piece as written
-  as_written : (c : Cursor) (kind : ℕ) → Bare r c kind → at < c.at.0 → c.at.0 ≤ length s
+  as_written : (c : Cursor) (kind : ℕ) (x : Piece) → r ≡ Ok x → Bare x c kind → at < c.at.0 → c.at.0 ≤ length s
       → {after : List ℕ} {v : ScalarRead} → WrittenIs s at kind c mid after v → ScalarIs s at before after v
-  as_written c kind b m n {after} {v} w =
-      let (t, i, f, j) = bare-inv (simple_at s at) r c kind k.is b in
+  as_written c kind x e b m n {after} {v} w =
+      let (t, i, f, j) = bare-inv (simple_at s at) x c kind (sym e ∙ k.is) b in
       let z : scalar_text t.scalar ≡ slice at c.at.0 s = rw i at k.spelt f in
       let l : length (scalar_text t.scalar) ≡ c.at.0 - at = ap length z ∙ length-slice at c.at.0 s n in
       rw w.is (record { is = (t, i, j, sym l, w.wrote ∙ sym z, m, n, omega arith); kept = w.kept ∙ k.kept })
 
-  pub scalar-unquoted : {c : Cursor} {after : List ℕ} {v : ScalarRead} → r ≡ Piece.Unquoted c → WrittenIs s at 5 c mid after v → ScalarIs s at before after v
-  scalar-unquoted {c} e w =
-      let m : Moved (length s) at (Piece.Unquoted c) = rw e at k.moved in
-      as_written c 5 (rw e (refl, refl)) m.0 m.1 w
-
-  pub scalar-plain : {kind : ℕ} {c : Cursor} {after : List ℕ} {v : ScalarRead} → r ≡ Piece.Plain kind c → WrittenIs s at kind c mid after v
+  pub scalar-unquoted : {x : Piece} {c : Cursor} {after : List ℕ} {v : ScalarRead} → r ≡ Ok x → x ≡ Piece.Unquoted c → WrittenIs s at 5 c mid after v
       → ScalarIs s at before after v
-  scalar-plain {kind} {c} e w =
-      let m : Moved (length s) at (Piece.Plain kind c) = rw e at k.moved in
-      as_written c kind (rw e (refl, refl)) m.0 m.1 w
+  scalar-unquoted {x} {c} i j w =
+      let e : r ≡ Ok (Piece.Unquoted c) = i ∙ ap Ok j in
+      let m : Moved (length s) at (Ok (Piece.Unquoted c)) = rw e at k.moved in
+      as_written c 5 (Piece.Unquoted c) e (refl, refl) m.0 m.1 w
+
+  pub scalar-plain : {x : Piece} {kind : ℕ} {c : Cursor} {after : List ℕ} {v : ScalarRead} → r ≡ Ok x → x ≡ Piece.Plain kind c → WrittenIs s at kind c mid after v
+      → ScalarIs s at before after v
+  scalar-plain {x} {kind} {c} i j w =
+      let e : r ≡ Ok (Piece.Plain kind c) = i ∙ ap Ok j in
+      let m : Moved (length s) at (Ok (Piece.Plain kind c)) = rw e at k.moved in
+      as_written c kind (Piece.Plain kind c) e (refl, refl) m.0 m.1 w
 
   -- what a copy asks
-  pub asks-unquoted : {c : Cursor} → r ≡ Piece.Unquoted c → WrittenAsked s at c.at.0 mid
-  asks-unquoted {c} e =
-      let m : Moved (length s) at (Piece.Unquoted c) = rw e at k.moved in
+  pub asks-unquoted : {x : Piece} {c : Cursor} → r ≡ Ok x → x ≡ Piece.Unquoted c → WrittenAsked s at c.at.0 mid
+  asks-unquoted {x} {c} i j =
+      let e : r ≡ Ok (Piece.Unquoted c) = i ∙ ap Ok j in
+      let m : Moved (length s) at (Ok (Piece.Unquoted c)) = rw e at k.moved in
       record { forward = omega (arith, m.0); inside = m.1; room = omega (arith, m.1, a.room, k.kept) }
 
-  pub asks-plain : {kind : ℕ} {c : Cursor} → r ≡ Piece.Plain kind c → WrittenAsked s at c.at.0 mid
-  asks-plain {kind} {c} e =
-      let m : Moved (length s) at (Piece.Plain kind c) = rw e at k.moved in
+  pub asks-plain : {x : Piece} {kind : ℕ} {c : Cursor} → r ≡ Ok x → x ≡ Piece.Plain kind c → WrittenAsked s at c.at.0 mid
+  asks-plain {x} {kind} {c} i j =
+      let e : r ≡ Ok (Piece.Plain kind c) = i ∙ ap Ok j in
+      let m : Moved (length s) at (Ok (Piece.Plain kind c)) = rw e at k.moved in
       record { forward = omega (arith, m.0); inside = m.1; room = omega (arith, m.1, a.room, k.kept) }
 
 pub ruleset scalars = (scalar-refused, scalar-quoted, scalar-unquoted, scalar-plain)

@@ -46,13 +46,16 @@ pub fn scalar(s: &[u8], c: Cursor, text: &mut [u8]) -> ScalarRead
     ensures { ScalarIs s.now c.at.0 text.old text.new result }
 {
     match text_pieces::piece_at(s, c, text) {
-        Piece::Refused { number, place } => ScalarRead::Refused { number, place },
-        Piece::Quoted { next, used } => ScalarRead::Done {
+        Err(e) => ScalarRead::Refused {
+            number: e.number,
+            place: e.place,
+        },
+        Ok(Piece::Quoted { next, used }) => ScalarRead::Done {
             kind: kinds::STRING,
             next,
             size: used,
         },
-        Piece::Unquoted { next } => copy_written(s, c, next, kinds::STRING, text),
-        Piece::Plain { kind, next } => copy_written(s, c, next, kind, text),
+        Ok(Piece::Unquoted { next }) => copy_written(s, c, next, kinds::STRING, text),
+        Ok(Piece::Plain { kind, next }) => copy_written(s, c, next, kind, text),
     }
 }

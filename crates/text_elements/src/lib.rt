@@ -41,60 +41,47 @@ pub fn behind_dot(dot: DocAt) -> DocAt
     requires { dot.0 < max_document }
     ensures { result.0 ≡ dot.0 + 1 }
 {
-    let at = dot.0;
-    DocAt(at + 1)
+    DocAt(dot.0 + 1)
 }
 
-// Whether an element so far is empty and without quotes, that which is being read included.
-fn has_empty(p: Path) -> bool
-    ensures { result ≡ emptied p }
-{
-    if p.empty {
-        return true;
+impl Path {
+    // Whether an element so far is empty and without quotes, that which is being read included.
+    fn has_empty(self) -> bool
+        ensures { result ≡ emptied self }
+    {
+        if self.empty {
+            return true;
+        }
+        if self.quotes {
+            return false;
+        }
+        self.used.0 == self.from.0
     }
-    if p.quotes {
-        return false;
-    }
-    let u = p.used;
-    let f = p.from;
-    u.0 == f.0
-}
 
-/// The element that is being read is whole, and the next begins at a place.
-pub fn next_element(p: Path, next: DocAt) -> Path
-    requires { p.count ≤ max_document }
-    ensures { result ≡ finish_c next.0 p }
-{
-    let n = p.count;
-    let u = p.used;
-    Path {
-        count: n + 1,
-        used: u,
-        from: u,
-        place: next,
-        quotes: false,
-        empty: has_empty(p),
+    /// The element that is being read is whole, and the next begins at a place.
+    pub fn next_element(self, next: DocAt) -> Path
+        requires { self.count ≤ max_document }
+        ensures { result ≡ finish_c next.0 self }
+    {
+        Path {
+            count: self.count + 1,
+            from: self.used,
+            place: next,
+            quotes: false,
+            empty: self.has_empty(),
+            ..self
+        }
     }
-}
 
-/// A quoted piece whose text was written behind what is there.
-pub fn add_quoted(p: Path, size: TextLen) -> Path
-    requires { p.used.0 + size.0 ≤ max_path_bytes }
-    ensures { result ≡ quoted_c size.0 p }
-{
-    let u = p.used;
-    let used = u.0;
-    let n = size.0;
-    let count = p.count;
-    let f = p.from;
-    let d = p.place;
-    let e = p.empty;
-    Path {
-        count,
-        used: TextAt(used + n),
-        from: f,
-        place: d,
-        quotes: true,
-        empty: e,
+    /// A quoted piece whose text was written behind what is there.
+    pub fn add_quoted(self, size: TextLen) -> Path
+        requires { self.used.0 + size.0 ≤ max_path_bytes }
+        ensures { result ≡ quoted_c size.0 self }
+    {
+        Path {
+            used: TextAt(self.used.0 + size.0),
+            quotes: true,
+            ..self
+        }
     }
 }

@@ -7,18 +7,16 @@ ghost use Rattle.text_elements.specs.Marks.Marks.{marks_room, mark_c, end_of, pl
 ghost use Rattle.text_elements.specs.Marks.Judging.{JudgeIs};
 
 use codes::{limits, refusals};
-use text_chars::{DocAt, TextAt};
+use text_chars::{DocAt, Refusal, TextAt};
 
 /// Marks an element by its end and its place; past the elements that are marked, nothing.
 pub fn put_mark(marks: &mut [usize], n: usize, end: TextAt, place: DocAt)
     requires { marks_room ≤ length marks.old }
     ensures { marks.new ≡ mark_c n end.0 place.0 marks.old }
 {
-    let e = end.0;
-    let p = place.0;
     if n < limits::MARKED {
-        marks[2 * n] = e;
-        marks[2 * n + 1] = p;
+        marks[2 * n] = end.0;
+        marks[2 * n + 1] = place.0;
     }
 }
 
@@ -27,8 +25,7 @@ pub fn end_at(marks: &[usize], n: usize) -> TextAt
     requires { 2 * n + 1 < length marks.now }
     ensures { result.0 ≡ end_of marks.now n }
 {
-    let i = 2 * n;
-    TextAt(marks[i])
+    TextAt(marks[2 * n])
 }
 
 /// The place of an element's first byte.
@@ -36,20 +33,10 @@ pub fn place_at(marks: &[usize], n: usize) -> DocAt
     requires { 2 * n + 1 < length marks.now }
     ensures { result.0 ≡ place_of marks.now n }
 {
-    let i = 2 * n + 1;
-    DocAt(marks[i])
+    DocAt(marks[2 * n + 1])
 }
 
-/// How a path is judged at its end.
-#[derive(Clone, Copy)]
-pub enum Verdict {
-    /// it has elements, none of them empty without quotes, and no more than it may have
-    Fine,
-    /// it is refused with a number at a place
-    Refused { number: u8, place: DocAt },
-}
-
-/// Judges a path at its end: 7, at a given place, if it is empty or has an empty element without quotes; then 8, at the first element
+/// Judges a path at its end. It is fine if it has elements, none of them empty without quotes, and no more than it may have; else 7, at a given place, if it is empty or has an empty element without quotes; then 8, at the first element
 /// that is too many.
 pub fn judge_elements(
     count: usize,
@@ -57,33 +44,33 @@ pub fn judge_elements(
     seven: DocAt,
     allowed: usize,
     marks: &[usize],
-) -> Verdict
+) -> Result<(), Refusal>
     requires { (allowed ≤ max_path) × (marks_room ≤ length marks.now) }
     ensures { JudgeIs count empty seven.0 allowed marks.now result }
 {
     if count == 0 {
-        return Verdict::Refused {
+        return Err(Refusal {
             number: refusals::BAD_PATH,
             place: seven,
-        };
+        });
     }
     if empty {
-        return Verdict::Refused {
+        return Err(Refusal {
             number: refusals::BAD_PATH,
             place: seven,
-        };
+        });
     }
     if allowed < count {
-        return Verdict::Refused {
+        return Err(Refusal {
             number: refusals::OVER_LIMIT,
             place: place_at(marks, allowed),
-        };
+        });
     }
-    Verdict::Fine
+    Ok(())
 }
 
 /// Judges a path that may have as many elements as any.
-pub fn judge_path(count: usize, empty: bool, seven: DocAt, marks: &[usize]) -> Verdict
+pub fn judge_path(count: usize, empty: bool, seven: DocAt, marks: &[usize]) -> Result<(), Refusal>
     requires { marks_room ≤ length marks.now }
     ensures { JudgeIs count empty seven.0 max_path marks.now result }
 {

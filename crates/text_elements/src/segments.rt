@@ -7,7 +7,7 @@ ghost use Rattle.text_elements.specs.Segments.Model.{FinishIs, ByteIs, SplitAske
 ghost use Rattle.text_elements.specs.Segments.Joining.{WrittenIs, SegmentAsked, SegmentIs, AdvanceAsked, AdvanceIs};
 
 use crate::Path;
-use text_chars::{Cursor, DocAt, TextAt};
+use text_chars::{Cursor, DocAt, Refusal, TextAt};
 use text_pieces::Piece;
 
 /// The element that is being read is whole and marked, and the next begins at a place.
@@ -15,11 +15,8 @@ pub fn close_element(p: Path, next: DocAt, marks: &mut [usize]) -> Path
     requires { (marks_room ≤ length marks.old) × (p.count ≤ max_document) }
     ensures { FinishIs p next.0 marks.old marks.new result }
 {
-    let n = p.count;
-    let u = p.used;
-    let d = p.place;
-    crate::marks::put_mark(marks, n, u, d);
-    crate::next_element(p, next)
+    crate::marks::put_mark(marks, p.count, p.used, p.place);
+    p.next_element(next)
 }
 
 // A byte outside quotes at a place: a dot ends the element, any other byte is its text.
@@ -28,24 +25,12 @@ fn add_byte(p: Path, b: u8, at: DocAt, out: &mut [u8], marks: &mut [usize]) -> P
     ensures { ByteIs p b at.0 out.old marks.old out.new marks.new result }
 {
     if crate::ends_element(b) {
-        close_element(p, crate::behind_dot(at), marks)
-    } else {
-        let u = p.used;
-        let used = u.0;
-        out[used] = b;
-        let n = p.count;
-        let f = p.from;
-        let d = p.place;
-        let q = p.quotes;
-        let e = p.empty;
-        Path {
-            count: n,
-            used: TextAt(used + 1),
-            from: f,
-            place: d,
-            quotes: q,
-            empty: e,
-        }
+        return close_element(p, crate::behind_dot(at), marks);
+    }
+    out[p.used.0] = b;
+    Path {
+        used: TextAt(p.used.0 + 1),
+        ..p
     }
 }
 
@@ -55,27 +40,20 @@ fn split(s: &[u8], from: DocAt, to: DocAt, p: Path, out: &mut [u8], marks: &mut 
     ensures { SplitIs s.now from.0 to.0 p out.old marks.old
         out.new marks.new result }
 {
-    let end = to.0;
     let mut q = p;
-    let mut at = from;
-    while at.0 < end {
-        let i = at.0;
-        let b = s[i];
-        q = add_byte(q, b, at, out, marks);
-        at = DocAt(i + 1);
+    for i in from.0..to.0 {
+        q = add_byte(q, s[i], DocAt(i), out, marks);
     }
     q
 }
 
 // ---- one piece more
 
-/// What one piece more makes of a path.
+/// A path with one piece more, and the cursor past that.
 #[derive(Clone, Copy)]
-pub enum SegmentRead {
-    /// the path with the piece, and the cursor past it
-    More { path: Path, next: Cursor },
-    /// the piece is refused with a number at a place
-    Refused { number: u8, place: DocAt },
+pub struct Segment {
+    pub path: Path,
+    pub next: Cursor,
 }
 
 // A piece that is no quoted one: its bytes as written.
@@ -86,35 +64,36 @@ fn add_written(
     p: Path,
     out: &mut [u8],
     marks: &mut [usize],
-) -> SegmentRead
+) -> Segment
     requires { SplitAsked s.now c.at.0 next.at.0 p out.old marks.old }
     ensures { WrittenIs s.now c.at.0 next p out.old marks.old
         out.new marks.new result }
 {
-    let from = c.at;
-    let to = next.at;
-    SegmentRead::More {
-        path: split(s, from, to, p, out, marks),
+    Segment {
+        path: split(s, c.at, next.at, p, out, marks),
         next,
     }
 }
 
 // The piece at a place where one begins.
-fn segment(s: &[u8], c: Cursor, p: Path, out: &mut [u8], marks: &mut [usize]) -> SegmentRead
+fn next_segment(
+    s: &[u8],
+    c: Cursor,
+    p: Path,
+    out: &mut [u8],
+    marks: &mut [usize],
+) -> Result<Segment, Refusal>
     requires { SegmentAsked s.now c.at.0 p out.old marks.old }
     ensures { SegmentIs s.now c.at.0 p out.old marks.old
         out.new marks.new result }
 {
-    let u = p.used;
-    let used = u.0;
-    match text_pieces::piece_at(s, c, &mut out[used..]) {
-        Piece::Refused { number, place } => SegmentRead::Refused { number, place },
-        Piece::Quoted { next, used: n } => SegmentRead::More {
-            path: crate::add_quoted(p, n),
+    match text_pieces::piece_at(s, c, &mut out[p.used.0..])? {
+        Piece::Quoted { next, used } => Ok(Segment {
+            path: p.add_quoted(used),
             next,
-        },
-        Piece::Unquoted { next } => add_written(s, c, next, p, out, marks),
-        Piece::Plain { kind: _, next } => add_written(s, c, next, p, out, marks),
+        }),
+        Piece::Unquoted { next } => Ok(add_written(s, c, next, p, out, marks)),
+        Piece::Plain { kind: _, next } => Ok(add_written(s, c, next, p, out, marks)),
     }
 }
 
@@ -126,12 +105,11 @@ pub fn advance(
     p: Path,
     out: &mut [u8],
     marks: &mut [usize],
-) -> SegmentRead
+) -> Result<Segment, Refusal>
     requires { AdvanceAsked s.now from.0 c.at.0 p out.old marks.old }
     ensures { AdvanceIs s.now from.0 c.at.0 p out.old marks.old
         out.new marks.new result }
 {
-    let at = c.at;
-    let q = split(s, from, at, p, out, marks);
-    segment(s, c, q, out, marks)
+    let q = split(s, from, c.at, p, out, marks);
+    next_segment(s, c, q, out, marks)
 }

@@ -2,6 +2,7 @@
 use mathlib.Core.Path.{◌≡◌, refl, sym, ◌∙◌, ap}
 use mathlib.Core.Bool.{Bool, true, false, ◌&&◌}
 use mathlib.Core.List.{List, [], ◌∷◌, ◌++◌}
+use Rattle.std.specs.Prelude.{Result, Ok, Err}
 use Prim.Native.Nat.{ℕ, suc, ◌+◌, ◌-◌, ◌≤◌, ◌<◌}
 use native.Mathlib.Omega.{arith}
 use lib.Dec.{eqb}
@@ -10,11 +11,12 @@ use borrow.Author.Tests.{le-ltb}
 use Rattle.answers.specs.Theory.Sound.{clash}
 use Rattle.rules.specs.Sizes.{max_document}
 use Rattle.rules.specs.Bytes.{byte_at}
-use Rattle.rules.specs.Refusals.{Refusal, placed, number_of, place_of, Scan, ok, refused, and_then}
+use Rattle.rules.specs.Refusals.{Refusal as Refusing, placed, number_of, place_of, Scan, ok, refused, and_then}
 use Rattle.rules.specs.Characters.{after_inline}
 use Rattle.rules.specs.Pieces.{Token, starts_simple, simple_at}
 use Rattle.rules.specs.Paths.{Segment, segment_of, gap_segment, segments_from, segments_at, Element, fresh, split_from, elements_of, any_empty}
-use Rattle.text_chars.specs.Cursor.{ByteIs, doc, cur}
+use Rattle.text_chars.specs.Cursor.{ByteIs, doc, cur, refusal}
+use Rattle.text_chars.specs.declared.Refusal.{Refusal}
 use Rattle.text_chars.specs.declared.DocAt.{DocAt}
 use Rattle.text_chars.specs.declared.Cursor.{Cursor}
 use Rattle.text_scan.specs.Scan.{EndIs}
@@ -23,10 +25,10 @@ use Rattle.text_elements.specs.Segments.Model.{state, FinishIs}
 use Rattle.text_elements.specs.Segments.Holding.{joined, Holds}
 use Rattle.text_elements.specs.Segments.Pieces.{remaining, piece_to}
 use Rattle.text_elements.specs.Segments.Joining.{AdvanceAsked, Advances, AdvanceIs}
-use Rattle.text_paths.specs.Whole.{Stops, StopIs, SpaceIs, Closes, ClosedIs, ElementsAsked, ElementsIs}
+use Rattle.text_paths.specs.Whole.{Stops, StopIs, SpaceIs, elements_to, Closes, ClosedIs, ElementsAsked, ElementsIs}
 use Rattle.text_elements.specs.Model.{finish_c}
 use Rattle.text_elements.specs.declared.Path.{Path}
-use Rattle.text_elements.specs.declared.segments.SegmentRead.{SegmentRead}
+use Rattle.text_elements.specs.declared.segments.Segment.{Segment as SegmentRead}
 use Rattle.text_paths.specs.declared.Stop.{Stop}
 use Rattle.text_paths.specs.declared.Joined.{Joined}
 use Rattle.text_elements.specs.Segments.Keeping.{holds-finish}
@@ -56,10 +58,10 @@ module _ {key : Bool} {s : List ℕ} {at : ℕ} {f : Bool} (i : f ≡ (key && eq
 -- ---- the end
 
 pub closed_some : {p q : Path} {any : Bool} {c : Cursor} {marks marks' : List ℕ} → any ≡ true → FinishIs p 0 marks marks' q
-    → ClosedIs p any c marks marks' (Joined.Elements q.count q.empty c)
+    → ClosedIs p any c marks marks' (elements_to q.count q.empty c)
 closed_some e f = rw e (record { is = (rw f.is, f.marked) })
 
-pub closed_none : {p : Path} {any : Bool} {c : Cursor} {marks : List ℕ} → any ≡ false → ClosedIs p any c marks marks (Joined.Elements 0 false c)
+pub closed_none : {p : Path} {any : Bool} {c : Cursor} {marks : List ℕ} → any ≡ false → ClosedIs p any c marks marks (elements_to 0 false c)
 closed_none e = rw e (record { is = (refl, refl) })
 
 -- ---- all pieces
@@ -137,7 +139,7 @@ joining-start {key} {s} {start} a = record {
 }
 
 -- a refusal of the rest is the path's
-remaining-fail : (m : Scan (List Segment)) (es : List Element) (e : Element) (x : Refusal)
+remaining-fail : (m : Scan (List Segment)) (es : List Element) (e : Element) (x : Refusing)
     → and_then m (λ gs end. ok (es ++ split_from e gs) end) ≡ refused x → m ≡ refused x
 remaining-fail (refused y) es e x z = cc
 remaining-fail (ok gs end) es e x z = clash (cc)
@@ -166,14 +168,14 @@ module _ {key : Bool} {s : List ℕ} {start : ℕ} {out₀ marks₀ : List ℕ} 
         marks-room = omega (arith, h.same-marks, h.asked.marks-room);
       }
 
-  fails : (x : Refusal) → segments_from (suc (length s)) key s from at ≡ refused x → segments_at key s start ≡ refused x
+  fails : (x : Refusing) → segments_from (suc (length s)) key s from at ≡ refused x → segments_at key s start ≡ refused x
   unfolding remaining segments_at
   fails x e = remaining-fail (segments_from (suc (length s)) key s start start) [] (fresh start) x (sym h.still ∙ rw e)
 
-  refuses : (x : Refusal) (n : ℕ) (d : DocAt) (out' marks' : List ℕ) → segments_at key s start ≡ refused x → n ≡ number_of x → d.0 ≡ place_of x
-      → length out' ≡ length out → length marks' ≡ length marks → ElementsIs key s start out₀ marks₀ out' marks' (Joined.Refused n d)
-  refuses x n d out' marks' e i j a b = record {
-    is = rw (e, i) (ap (λ q. Joined.Refused (number_of x) (doc q)) j);
+  refuses : (x : Refusing) (y : Refusal) (out' marks' : List ℕ) → segments_at key s start ≡ refused x → y.number ≡ number_of x → y.place.0 ≡ place_of x
+      → length out' ≡ length out → length marks' ≡ length marks → ElementsIs key s start out₀ marks₀ out' marks' (Err y)
+  refuses x y out' marks' e i j a b = record {
+    is = ap (λ (n : ℕ). Err (refusal n y.place)) i ∙ rw e (ap (λ q. Err (refusal (number_of x) (doc q))) j);
     held = rw e tt;
     ends = tt;
     same_out = a ∙ h.same_out;
@@ -181,23 +183,23 @@ module _ {key : Bool} {s : List ℕ} {start : ℕ} {out₀ marks₀ : List ℕ} 
   }
 
   pub elements-dollar : {r : Stop} {d : DocAt} → StopIs key s at r → r ≡ Stop.Dollar → d.0 ≡ at
-      → ElementsIs key s start out₀ marks₀ out marks (Joined.Refused 7 d)
+      → ElementsIs key s start out₀ marks₀ out marks (Err (refusal 7 d))
   elements-dollar {r} {d} k e z =
       let w : Stops key s at Stop.Dollar = rw e at k.is in
-      refuses (placed 7 at) 7 d out marks (fails (placed 7 at) (segments-dollar key s from at w)) refl z refl refl
+      refuses (placed 7 at) (refusal 7 d) out marks (fails (placed 7 at) (segments-dollar key s from at w)) refl z refl refl
 
-  module _ {r : Stop} (k : StopIs key s at r) (e : r ≡ Stop.Piece) {out' marks' : List ℕ} {t : SegmentRead} (a : AdvanceIs s from at p out marks out' marks' t) where
-    pub elements-refused : {n : ℕ} {d : DocAt} → t ≡ SegmentRead.Refused n d → ElementsIs key s start out₀ marks₀ out' marks' (Joined.Refused n d)
-    elements-refused {n} {d} z =
+  module _ {r : Stop} (k : StopIs key s at r) (e : r ≡ Stop.Piece) {out' marks' : List ℕ} {t : Result SegmentRead Refusal} (a : AdvanceIs s from at p out marks out' marks' t) where
+    pub elements-refused : {y : Refusal} → t ≡ Err y → ElementsIs key s start out₀ marks₀ out' marks' (Err y)
+    elements-refused {y} z =
         let w : Stops key s at Stop.Piece = rw e at k.is in
-        let v : Advances s from at p out marks out' marks' (SegmentRead.Refused n d) = rw z at a.is in
-        refuses v.0 n d out' marks' (fails v.0 (segments-fail key s from at w.0 w.1 v.0 v.1)) v.2 v.3 v.4 v.5
+        let v : Advances s from at p out marks out' marks' (Err y) = rw z at a.is in
+        refuses v.0 y out' marks' (fails v.0 (segments-fail key s from at w.0 w.1 v.0 v.1)) v.2 v.3 v.4 v.5
 
-    pub joining-more : {q : Path} {c d : Cursor} → t ≡ SegmentRead.More q c → SpaceIs s c.at.0 d
-        → Joining key s start out₀ marks₀ q c.at.0 d.at.0 true out' marks'
-    joining-more {q} {c} {d} z x =
+    pub joining-more : {m : SegmentRead} {d : Cursor} → t ≡ Ok m → SpaceIs s m.next.at.0 d
+        → Joining key s start out₀ marks₀ m.path m.next.at.0 d.at.0 true out' marks'
+    joining-more {m} {d} z x =
         let w : Stops key s at Stop.Piece = rw e at k.is in
-        let v : Advances s from at p out marks out' marks' (SegmentRead.More q c) = rw z at a.is in
+        let v : Advances s from at p out marks out' marks' (Ok m) = rw z at a.is in
         let y = x.is v.3 in
         let tok = v.0 in
         record {
@@ -205,8 +207,8 @@ module _ {key : Bool} {s : List ℕ} {start : ℕ} {out₀ marks₀ : List ℕ} 
           e = (piece_to s from at (segment_of at tok) h.es h.e).1;
           holds = v.5 h.es h.e h.holds;
           still =
-              ap (λ n. remaining key s c.at.0 n (piece_to s from at (segment_of at tok) h.es h.e).0 (piece_to s from at (segment_of at tok) h.es h.e).1) y.is
-              ∙ sym (remaining-more key s from at w.0 h.es h.e w.1 tok c.at.0 v.2 v.1) ∙ h.still;
+              ap (λ n. remaining key s m.next.at.0 n (piece_to s from at (segment_of at tok) h.es h.e).0 (piece_to s from at (segment_of at tok) h.es h.e).1) y.is
+              ∙ sym (remaining-more key s from at w.0 h.es h.e w.1 tok m.next.at.0 v.2 v.1) ∙ h.still;
           after-start = omega (arith, h.after-start, h.forward, v.2);
           forward = y.forward;
           inside = y.inside;
@@ -223,9 +225,9 @@ module _ {key : Bool} {s : List ℕ} {start : ℕ} {out₀ marks₀ : List ℕ} 
         begins true x w = h.begun x
         begins false x w = let z : at ≡ start = (h.none_yet x).1 in rw (← z) w
 
-    pub joining-less : {q : Path} {c d : Cursor} → t ≡ SegmentRead.More q c → SpaceIs s c.at.0 d → length s - d.at.0 < length s - at
-    joining-less {q} {c} {d} z x =
-        let v : Advances s from at p out marks out' marks' (SegmentRead.More q c) = rw z at a.is in
+    pub joining-less : {m : SegmentRead} {d : Cursor} → t ≡ Ok m → SpaceIs s m.next.at.0 d → length s - d.at.0 < length s - at
+    joining-less {m} {d} z x =
+        let v : Advances s from at p out marks out' marks' (Ok m) = rw z at a.is in
         omega (arith, v.2, v.3, (x.is v.3).forward)
 
   -- the end: no piece at all, or the elements so far and the last one
@@ -243,14 +245,14 @@ module _ {key : Bool} {s : List ℕ} {start : ℕ} {out₀ marks₀ : List ℕ} 
     opened z = z
 
     ended : (b : Bool) → any ≡ b → (c : Cursor) → c.at.0 ≡ at → (marks' : List ℕ) (j : Joined) → Closes p b c marks marks' j
-        → ElementsIs key s start out₀ marks₀ out marks' j
+        → ElementsIs key s start out₀ marks₀ out marks' (Ok j)
     unfolding segments_at elements_of any_empty
     ended false x c i marks' j w =
         let (f, g) = h.none_yet x in
         let m : segments_from (suc (length s)) key s start start ≡ ok [] start =
         segments-end key s start start (rw g at stops-here.0) (rw g at stops-here.1) in
         record {
-          is = w.0 ∙ rw m (ap (λ n. Joined.Elements 0 false (cur n)) (i ∙ g));
+          is = ap Ok w.0 ∙ rw m (ap (λ n. Ok (elements_to 0 false (cur n))) (i ∙ g));
           held = rw m tt;
           ends = rw w.0 (omega (arith, i, g), omega (arith, i, h.inside), omega arith);
           same_out = h.same_out;
@@ -261,7 +263,7 @@ module _ {key : Bool} {s : List ℕ} {start : ℕ} {out₀ marks₀ : List ℕ} 
         let el : elements_of gs ≡ h.es ++ (h.e ∷ []) = first-segment key s start (h.begun x).0 (h.begun x).1 gs at m ∙ sp in
         let f = holds-finish h.holds 0 (omega (arith, h.same-marks, h.asked.marks-room)) in
         record {
-          is = w.0 ∙ rw (m, el, f.count, f.empty) (ap (λ n. Joined.Elements (length (h.es ++ (h.e ∷ []))) (any_empty (h.es ++ (h.e ∷ []))) (cur n)) i);
+          is = ap Ok w.0 ∙ rw (m, el, f.count, f.empty) (ap (λ n. Ok (elements_to (length (h.es ++ (h.e ∷ []))) (any_empty (h.es ++ (h.e ∷ []))) (cur n))) i);
           held = rw (m, el, w.1) f.held;
           ends = rw w.0 (omega (arith, i, h.after-start, h.forward), omega (arith, i, h.inside), omega (arith, finish-count p, h.few, h.forward, h.inside, h.asked.short));
           same_out = h.same_out;
@@ -269,7 +271,7 @@ module _ {key : Bool} {s : List ℕ} {start : ℕ} {out₀ marks₀ : List ℕ} 
         }
 
     pub elements-end : {c : Cursor} {marks' : List ℕ} {j : Joined} → c.at.0 ≡ at → ClosedIs p any c marks marks' j
-        → ElementsIs key s start out₀ marks₀ out marks' j
+        → ElementsIs key s start out₀ marks₀ out marks' (Ok j)
     elements-end {c} {marks'} {j} i w = ended any refl c i marks' j w.is
 
     pub asks-closing : (marks_room ≤ length marks) × (p.count ≤ max_document)

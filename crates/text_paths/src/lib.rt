@@ -10,10 +10,8 @@ ghost use Rattle.text_paths.specs.Whole.{StopIs, SpaceIs, ClosedIs, ElementsAske
 ghost use Rattle.text_paths.specs.Texts.{EndedIs, PathAsked, PathIs};
 
 use codes::{bytes, refusals};
-use text_chars::{Cursor, DocAt, TextAt};
+use text_chars::{Cursor, DocAt, Refusal, TextAt};
 use text_elements::Path;
-use text_elements::marks::Verdict;
-use text_elements::segments::SegmentRead;
 
 // ---- all pieces
 
@@ -32,8 +30,7 @@ fn is_dollar(s: &[u8], c: Cursor, key: bool) -> bool
     ensures { result ≡ (key && eqb (byte_at s.now c.at.0) 36) }
 {
     if key {
-        let a = c.at;
-        text_chars::byte_at(s, a) == bytes::DOLLAR
+        text_chars::byte_at(s, c.at) == bytes::DOLLAR
     } else {
         false
     }
@@ -55,18 +52,13 @@ fn stop_at(s: &[u8], c: Cursor, key: bool) -> Stop
 
 /// The elements of a path up to the first byte that starts no further piece.
 #[derive(Clone, Copy)]
-pub enum Joined {
-    /// how many there are, whether one is empty and without quotes, and the cursor there
-    Elements {
-        count: usize,
-        empty: bool,
-        next: Cursor,
-    },
-    /// a piece is refused with a number at a place
-    Refused {
-        number: u8,
-        place: DocAt,
-    },
+pub struct Joined {
+    /// how many there are
+    pub count: usize,
+    /// whether one is empty and without quotes
+    pub empty: bool,
+    /// the cursor at that byte
+    pub next: Cursor,
 }
 
 // The cursor past the whitespace behind a piece. It asks nothing of the cursor: one past the end, which no piece gives, stays.
@@ -74,8 +66,7 @@ fn past_space(s: &[u8], c: Cursor) -> Cursor
     requires { length s.now ≤ max_document }
     ensures { SpaceIs s.now c.at.0 result }
 {
-    let d = c.at;
-    if d.0 <= s.len() {
+    if c.at.0 <= s.len() {
         text_scan::after_inline(s, c)
     } else {
         c
@@ -89,102 +80,94 @@ fn close_path(p: Path, any: bool, next: Cursor, marks: &mut [usize]) -> Joined
 {
     if any {
         let q = text_elements::segments::close_element(p, DocAt(0), marks);
-        let count = q.count;
-        let empty = q.empty;
-        Joined::Elements { count, empty, next }
-    } else {
-        Joined::Elements {
-            count: 0,
-            empty: false,
+        return Joined {
+            count: q.count,
+            empty: q.empty,
             next,
-        }
+        };
+    }
+    Joined {
+        count: 0,
+        empty: false,
+        next,
     }
 }
 
 /// Reads the pieces of a path from a place on and splits them at the dots outside quotes. A key refuses a `$` at once; all else that
 /// differs between a key, a substitution's path and a path text is the caller's.
-pub fn elements(s: &[u8], c: Cursor, key: bool, out: &mut [u8], marks: &mut [usize]) -> Joined
+pub fn elements(
+    s: &[u8],
+    c: Cursor,
+    key: bool,
+    out: &mut [u8],
+    marks: &mut [usize],
+) -> Result<Joined, Refusal>
     requires { ElementsAsked s.now c.at.0 out.old marks.old }
     ensures { ElementsIs key s.now c.at.0 out.old marks.old
         out.new marks.new result }
 {
-    let start = c.at;
     let mut p = Path {
         count: 0,
         used: TextAt(0),
         from: TextAt(0),
-        place: start,
+        place: c.at,
         quotes: false,
         empty: false,
     };
     let mut at = c;
-    let mut from = start;
+    let mut from = c.at;
     let mut any = false;
     loop {
         match stop_at(s, at, key) {
             Stop::Dollar => {
-                let place = at.at;
-                return Joined::Refused {
+                return Err(Refusal {
                     number: refusals::BAD_PATH,
-                    place,
-                };
+                    place: at.at,
+                });
             }
             Stop::End => {
-                return close_path(p, any, at, marks);
+                return Ok(close_path(p, any, at, marks));
             }
-            Stop::Piece => match text_elements::segments::advance(s, at, from, p, out, marks) {
-                SegmentRead::Refused { number, place } => {
-                    return Joined::Refused { number, place };
-                }
-                SegmentRead::More { path, next } => {
-                    p = path;
-                    let end = next.at;
-                    from = end;
-                    at = past_space(s, next);
-                    any = true;
-                }
-            },
+            Stop::Piece => {
+                let more = text_elements::segments::advance(s, at, from, p, out, marks)?;
+                p = more.path;
+                from = more.next.at;
+                at = past_space(s, more.next);
+                any = true;
+            }
         }
     }
 }
 
 // ---- path texts
 
-/// A look-up's path text.
-#[derive(Clone, Copy)]
-pub enum PathRead {
-    /// how many elements it has
-    Elements { count: usize },
-    /// it is refused with a number at a place
-    Refused { number: u8, place: DocAt },
-}
-
-// A path text is judged at its end.
-fn judge_path_text(s: &[u8], count: usize, empty: bool, next: Cursor, marks: &[usize]) -> PathRead
+// A path text is judged at its end; how many elements it has.
+fn judge_path_text(
+    s: &[u8],
+    count: usize,
+    empty: bool,
+    next: Cursor,
+    marks: &[usize],
+) -> Result<usize, Refusal>
     requires { marks_room ≤ length marks.now }
     ensures { EndedIs s.now count empty next.at.0 marks.now result }
 {
-    let d = next.at;
-    if d.0 < s.len() {
-        return PathRead::Refused {
+    if next.at.0 < s.len() {
+        return Err(Refusal {
             number: refusals::BYTE_NOT_ALLOWED,
-            place: d,
-        };
+            place: next.at,
+        });
     }
-    match text_elements::marks::judge_path(count, empty, DocAt(0), marks) {
-        Verdict::Fine => PathRead::Elements { count },
-        Verdict::Refused { number, place } => PathRead::Refused { number, place },
-    }
+    text_elements::marks::judge_path(count, empty, DocAt(0), marks)?;
+    Ok(count)
 }
 
-/// Reads a look-up's path text. The elements' texts stand one behind the other in `out`; `marks` has the end and the place of each.
-pub fn path_text(s: &[u8], out: &mut [u8], marks: &mut [usize]) -> PathRead
+/// Reads a look-up's path text; how many elements it has. The elements' texts stand one behind the other in `out`; `marks` has the end and the place of each.
+pub fn path_text(s: &[u8], out: &mut [u8], marks: &mut [usize]) -> Result<usize, Refusal>
     requires { PathAsked s.now out.old marks.old }
     ensures { PathIs s.now out.new marks.new result }
 {
     let start = text_scan::after_inline(s, Cursor::start());
-    match elements(s, start, false, out, marks) {
-        Joined::Refused { number, place } => PathRead::Refused { number, place },
-        Joined::Elements { count, empty, next } => judge_path_text(s, count, empty, next, marks),
-    }
+    let whole = elements(s, start, false, out, marks)?;
+    judge_path_text(s, whole.count, whole.empty, whole.next, marks)
 }

@@ -166,7 +166,7 @@ module _ {s : List ℕ} {at : ℕ} {r : Number} (h : NumberIs s at (after_number
 
 quoted-text : (m : Scan Text) (s : List ℕ) (at : ℕ) (before after : List ℕ) (q : Result Quoted Refusal) → Decoded m s at before after q
     → (v : Quoted) → q ≡ Ok v
-    → PieceIs (and_then m (λ t end. ok (token true (string t)) end)) s at before after (Ok (Piece.Quoted v))
+    → PieceIs (and_then m (λ t end. ok (token true (string t)) end)) s at before after (Ok (Piece.Quoted v.next v.used))
 unfolding scalar_text
 quoted-text (ok t end) s at before after q h v e =
     let z : Ok v ≡ Ok (quoted (cur end) (sized (length t))) = sym e ∙ h.is in
@@ -186,7 +186,7 @@ quoted-refused (refused x) s at before after q h y e =
     go z = cc
 
 module _ {s : List ℕ} {at : ℕ} {before after : List ℕ} {q : Result Quoted Refusal} (h : Decoded (quoted_at s at) s at before after q) where
-  pub piece-quoted : {v : Quoted} → q ≡ Ok v → PieceIs (quoted_token s at) s at before after (Ok (Piece.Quoted v))
+  pub piece-quoted : {v : Quoted} → q ≡ Ok v → PieceIs (quoted_token s at) s at before after (Ok (Piece.Quoted v.next v.used))
   unfolding quoted_token
   piece-quoted {v} e = quoted-text (quoted_at s at) s at before after q h v e
 

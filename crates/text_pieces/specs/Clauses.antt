@@ -10,7 +10,6 @@ use Rattle.rules.specs.Tree.{Scalar, null, boolean, number, string}
 use Rattle.rules.specs.Pieces.{Token, token, stops_unquoted, starts_simple, scalar_text}
 use Rattle.text_chars.specs.Cursor.{doc, cur, refusal}
 use Rattle.text_chars.specs.declared.Refusal.{Refusal}
-use Rattle.text_escapes.specs.Clauses.{sized, quoted}
 use Rattle.text_pieces.specs.declared.Piece.{Piece}
 use Rattle.text_pieces.specs.declared.Lead.{Lead}
 
@@ -38,7 +37,7 @@ of_scalar (number t) end = Piece.Plain 4 (cur end)
 of_scalar (string t) end = Piece.Unquoted (cur end)
 
 abbrev pub of_token : Bool → Scalar → ℕ → Piece
-of_token true x end = Piece.Quoted (quoted (cur end) (sized (length (scalar_text x))))
+of_token true x end = Piece.Quoted (cur end) (record { 0 = length (scalar_text x) })
 of_token false x end = of_scalar x end
 
 abbrev pub piece_of : Scan Token → Result Piece Refusal
@@ -49,7 +48,7 @@ piece_of (refused x) = Err (refusal (number_of x) (doc (place_of x)))
 
 -- a piece is not empty, not past the end, and its text no longer than what was read
 abbrev pub Moved : ℕ → ℕ → Result Piece Refusal → Type 0
-Moved len at (Ok (Piece.Quoted q)) = (at < q.next.at.0) × (q.next.at.0 ≤ len) × (q.used.0 ≤ q.next.at.0 - at)
+Moved len at (Ok (Piece.Quoted c used)) = (at < c.at.0) × (c.at.0 ≤ len) × (used.0 ≤ c.at.0 - at)
 Moved len at (Ok (Piece.Unquoted c)) = (at < c.at.0) × (c.at.0 ≤ len)
 Moved len at (Ok (Piece.Plain kind c)) = (at < c.at.0) × (c.at.0 ≤ len)
 Moved len at (Err x) = Unit {0}

@@ -9,16 +9,15 @@ ghost use Rattle.rules.specs.Pieces.{unquoted_at, number_at, simple_at};
 ghost use Rattle.text_pieces.specs.Clauses.{LeadIs, TextAsked, ScanIs, quoted_token, PieceAsked, PieceIs};
 
 use codes::{bytes, kinds, refusals};
-use text_chars::{Cursor, Refusal};
-use text_escapes::Quoted;
+use text_chars::{Cursor, Refusal, TextLen};
 use text_numbers::Number;
 use text_unquoted::Word;
 
 /// A simple piece that was read, with the cursor past it.
 #[derive(Clone, Copy)]
 pub enum Piece {
-    // in quotes, once or three times: its text is written to a lent buffer
-    Quoted(Quoted),
+    // in quotes, once or three times: so many bytes of text, written to a lent buffer
+    Quoted { next: Cursor, used: TextLen },
     // unquoted text, as it stands
     Unquoted { next: Cursor },
     // a number or one of the words null, false and true, by the kind of their records
@@ -103,7 +102,10 @@ fn quoted_piece(s: &[u8], c: Cursor, out: &mut [u8]) -> Result<Piece, Refusal>
         out.old out.new result }
 {
     let text = text_strings::read_quoted(s, c, out)?;
-    Ok(Piece::Quoted(text))
+    Ok(Piece::Quoted {
+        next: text.next,
+        used: text.used,
+    })
 }
 
 /// The simple piece at a place where one begins; refused are a bad string, and a `-` that starts no number.

@@ -1,6 +1,7 @@
 -- The laws of one piece more with the whitespace before it.
 use mathlib.Core.Path.{◌≡◌, ◌∙◌}
 use mathlib.Core.List.{List}
+use Rattle.std.specs.Prelude.{Result, Ok, Err}
 use Prim.Native.Nat.{ℕ, ◌-◌}
 use native.Mathlib.Omega.{arith}
 use lib.ListN.{length}
@@ -10,8 +11,9 @@ use Rattle.text_elements.specs.Segments.Model.{state, SplitAsked, SplitIs}
 use Rattle.text_elements.specs.Segments.Holding.{Holds}
 use Rattle.text_elements.specs.Segments.Pieces.{split_to, piece_to}
 use Rattle.text_elements.specs.Segments.Joining.{SegmentAsked, Reads, SegmentIs, AdvanceAsked, Advances, AdvanceIs}
+use Rattle.text_chars.specs.declared.Refusal.{Refusal}
 use Rattle.text_elements.specs.declared.Path.{Path}
-use Rattle.text_elements.specs.declared.segments.SegmentRead.{SegmentRead}
+use Rattle.text_elements.specs.declared.segments.Segment.{Segment as SegmentRead}
 use Rattle.text_elements.specs.Segments.Keeping.{holds-split}
 
 module _ {s : List ℕ} {from at : ℕ} {p : Path} {out marks : List ℕ} (a : AdvanceAsked s from at p out marks) where
@@ -43,9 +45,9 @@ module _ {s : List ℕ} {from at : ℕ} {p : Path} {out marks : List ℕ} (a : A
         let l : length (slice from at s) ≡ at - from = length-slice from at s a.inside in
         rw k.is (holds-split (slice from at s) (state p out marks) es e from h (omega (arith, a.room, a.forward, a.inside)) a.marks-room)
 
-    advances : (out' marks' : List ℕ) (r : SegmentRead) → Reads s at q out₁ marks₁ out' marks' r → Advances s from at p out marks out' marks' r
+    advances : (out' marks' : List ℕ) (r : Result SegmentRead Refusal) → Reads s at q out₁ marks₁ out' marks' r → Advances s from at p out marks out' marks' r
     unfolding piece_to
-    advances out' marks' (SegmentRead.More z c) t = (
+    advances out' marks' (Ok z) t = (
       t.0,
       t.1,
       t.2,
@@ -58,9 +60,9 @@ module _ {s : List ℕ} {from at : ℕ} {p : Path} {out marks : List ℕ} (a : A
       },
       λ es e h. t.5 (split_to es e from (slice from at s)).0 (split_to es e from (slice from at s)).1 (gap-holds es e h),
     )
-    advances out' marks' (SegmentRead.Refused n d) t = (t.0, t.1, t.2, t.3, t.4 ∙ k.same_out, t.5 ∙ k.same-marks)
+    advances out' marks' (Err x) t = (t.0, t.1, t.2, t.3, t.4 ∙ k.same_out, t.5 ∙ k.same-marks)
 
-    pub advance-is : {out' marks' : List ℕ} {r : SegmentRead} → SegmentIs s at q out₁ marks₁ out' marks' r → AdvanceIs s from at p out marks out' marks' r
+    pub advance-is : {out' marks' : List ℕ} {r : Result SegmentRead Refusal} → SegmentIs s at q out₁ marks₁ out' marks' r → AdvanceIs s from at p out marks out' marks' r
     advance-is {out'} {marks'} {r} t = record { is = advances out' marks' r t.is }
 
 pub ruleset advances-so = (asks-gap, asks-segment, advance-is)

@@ -2,20 +2,20 @@
 use mathlib.Core.Path.{◌≡◌, refl, sym, ◌∙◌, ap}
 use mathlib.Core.Bool.{Bool, true, false}
 use mathlib.Core.List.{List, ◌++◌, append_assoc}
+use Rattle.std.specs.Prelude.{Result, Ok, Err}
 use Prim.Native.Nat.{ℕ, ◌+◌, ◌-◌, ◌≤◌, ◌<◌}
 use native.Mathlib.Omega.{arith}
 use lib.ListN.{length, take, drop}
 use lib.Seq.{slice, length-slice, take-append-add, take-append_seam, length-take-le}
 use borrow.Rule.Slice.PartMut.{put_same}
 use Rattle.answers.specs.Theory.Sound.{clash}
-use Rattle.rules.specs.Refusals.{Refusal, number_of, place_of, Scan, ok, refused}
+use Rattle.rules.specs.Refusals.{Refusal as Refusing, number_of, place_of, Scan, ok, refused}
 use Rattle.rules.specs.Tree.{Scalar, null, boolean, number, string}
 use Rattle.rules.specs.Pieces.{Token, simple_at, scalar_text}
 use Rattle.rules.specs.Paths.{segment_of}
-use Rattle.text_chars.specs.Cursor.{doc, cur}
+use Rattle.text_chars.specs.Cursor.{doc, cur, refusal}
 use Rattle.text_chars.specs.Parts.{part, back, part_length, back-length}
-use Rattle.text_chars.specs.declared.DocAt.{DocAt}
-use Rattle.text_chars.specs.declared.TextLen.{TextLen}
+use Rattle.text_chars.specs.declared.Refusal.{Refusal}
 use Rattle.text_chars.specs.declared.Cursor.{Cursor}
 use Rattle.text_elements.specs.Segments.Model.{state, SplitAsked, SplitIs}
 use Rattle.text_elements.specs.Segments.Pieces.{segment_to}
@@ -24,7 +24,8 @@ use Rattle.text_pieces.specs.Clauses.{of_scalar, of_token, LaidToken}
 use Rattle.text_elements.specs.Segments.Joining.{Writes, WrittenIs, SegmentAsked, Reads, SegmentIs}
 use Rattle.text_elements.specs.Model.{quoted_c}
 use Rattle.text_elements.specs.declared.Path.{Path}
-use Rattle.text_elements.specs.declared.segments.SegmentRead.{SegmentRead}
+use Rattle.text_elements.specs.declared.segments.Segment.{Segment as SegmentRead}
+use Rattle.text_chars.specs.declared.TextLen.{TextLen}
 use Rattle.text_pieces.specs.declared.Piece.{Piece}
 use Rattle.text_elements.specs.Segments.Keeping.{holds-quoted, holds-split}
 
@@ -47,8 +48,12 @@ quoted-count : (n : ℕ) (p : Path) → (quoted_c n p).count ≡ p.count
 unfolding quoted_c
 quoted-count n p = refl
 
+-- a path with one piece more by its two parts
+abbrev more : Path → Cursor → SegmentRead
+more path next = record { path = path; next = next }
+
 pub written-more : {s : List ℕ} {at : ℕ} {c : Cursor} {p q : Path} {out marks out' marks' : List ℕ} → SplitAsked s at c.at.0 p out marks
-    → SplitIs s at c.at.0 p out marks out' marks' q → WrittenIs s at c p out marks out' marks' (SegmentRead.More q c)
+    → SplitIs s at c.at.0 p out marks out' marks' q → WrittenIs s at c p out marks out' marks' (more q c)
 unfolding segment_to
 written-more {s} {at} {c} {p} {q} {out} {marks} a k =
     let l : length (slice at c.at.0 s) ≡ c.at.0 - at = length-slice at c.at.0 s a.inside in
@@ -69,31 +74,16 @@ scalar-quoted (boolean false) end e = clash (cc)
 scalar-quoted (number t) end e = clash (cc)
 scalar-quoted (string t) end e = clash (cc)
 
-scalar-refused : (x : Scalar) (end n : ℕ) {d : DocAt} {A : Type 0} → Piece.Refused n d ≡ of_scalar x end → A
-scalar-refused null end n e = clash (cc)
-scalar-refused (boolean true) end n e = clash (cc)
-scalar-refused (boolean false) end n e = clash (cc)
-scalar-refused (number t) end n e = clash (cc)
-scalar-refused (string t) end n e = clash (cc)
-
 -- the cursor of a piece outside quotes
 abbrev Bare : Piece → Cursor → Type 0
 Bare (Piece.Quoted c u) d = ⊥
 Bare (Piece.Unquoted c) d = c ≡ d
 Bare (Piece.Plain k c) d = c ≡ d
-Bare (Piece.Refused n p) d = ⊥
 
-scalar-bare : (x : Scalar) (end : ℕ) → Bare (of_scalar x end) (cur end)
-scalar-bare null end = refl
-scalar-bare (boolean true) end = refl
-scalar-bare (boolean false) end = refl
-scalar-bare (number t) end = refl
-scalar-bare (string t) end = refl
-
-quoted-inv : (m : Scan Token) (c : Cursor) (u : TextLen) → Piece.Quoted c u ≡ piece_of m
+quoted-inv : (m : Scan Token) (c : Cursor) (u : TextLen) → Ok (Piece.Quoted c u) ≡ piece_of m
     → (t : Token) × (m ≡ ok t c.at.0) × (t.in_quotes ≡ true) × (u.0 ≡ length (scalar_text t.scalar))
 quoted-inv (refused x) c u e = clash (cc)
-quoted-inv (ok t end) c u e = go t.in_quotes refl e
+quoted-inv (ok t end) c u e = go t.in_quotes refl (cc)
   where
     go : (q : Bool) → t.in_quotes ≡ q → Piece.Quoted c u ≡ of_token q t.scalar end
         → (t' : Token) × (ok t end ≡ ok t' c.at.0) × (t'.in_quotes ≡ true) × (u.0 ≡ length (scalar_text t'.scalar))
@@ -103,22 +93,17 @@ quoted-inv (ok t end) c u e = go t.in_quotes refl e
         (t, ap (λ (x : Cursor). ok t x.at.0) (sym i), q, ap (λ (x : TextLen). x.0) j)
     go false q z = scalar-quoted t.scalar end z
 
-refused-inv : (m : Scan Token) (n : ℕ) (d : DocAt) → Piece.Refused n d ≡ piece_of m
-    → (x : Refusal) × (m ≡ refused x) × (n ≡ number_of x) × (d.0 ≡ place_of x)
-refused-inv (refused x) n d e =
-    let i : n ≡ number_of x = cc in
-    let j : d ≡ doc (place_of x) = cc in
-    (x, refl, i, ap (λ (y : DocAt). y.0) j)
-refused-inv (ok t end) n d e = go t.in_quotes e
-  where
-    go : (q : Bool) → Piece.Refused n d ≡ of_token q t.scalar end → (x : Refusal) × (ok t end ≡ refused x) × (n ≡ number_of x) × (d.0 ≡ place_of x)
-    go true z = clash (cc)
-    go false z = scalar-refused t.scalar end n z
+refused-inv : (m : Scan Token) (y : Refusal) → Err y ≡ piece_of m
+    → (x : Refusing) × (m ≡ refused x) × (y.number ≡ number_of x) × (y.place.0 ≡ place_of x)
+refused-inv (refused x) y e =
+    let i : y ≡ refusal (number_of x) (doc (place_of x)) = cc in
+    (x, refl, ap (λ (z : Refusal). z.number) i, ap (λ (z : Refusal). z.place.0) i)
+refused-inv (ok t end) y e = clash (cc)
 
-bare-inv : (m : Scan Token) (r : Piece) (c : Cursor) → r ≡ piece_of m → Bare r c
+bare-inv : (m : Scan Token) (r : Piece) (c : Cursor) → Ok r ≡ piece_of m → Bare r c
     → (t : Token) × (m ≡ ok t c.at.0) × (t.in_quotes ≡ false)
-bare-inv (refused x) r c e b = absurd (rw e at b)
-bare-inv (ok t end) r c e b = go t.in_quotes refl (rw e at b)
+bare-inv (refused x) r c e b = clash (cc)
+bare-inv (ok t end) r c e b = let k : r ≡ of_token t.in_quotes t.scalar end = cc in go t.in_quotes refl (rw k at b)
   where
     go : (q : Bool) → t.in_quotes ≡ q → Bare (of_token q t.scalar end) c → (t' : Token) × (ok t end ≡ ok t' c.at.0) × (t'.in_quotes ≡ false)
     go true q z = absurd z
@@ -144,20 +129,20 @@ asks-piece {s} {at} {p} {out} a = record {
   room = omega (arith, a.room, part_length p.used.0 out);
 }
 
-module _ {s : List ℕ} {at : ℕ} {p : Path} {out marks y : List ℕ} {r : Piece} (a : SegmentAsked s at p out marks)
+module _ {s : List ℕ} {at : ℕ} {p : Path} {out marks y : List ℕ} {r : Result Piece Refusal} (a : SegmentAsked s at p out marks)
     (k : PieceIs (simple_at s at) s at (part p.used.0 out) y r) where
   same_length : length (back p.used.0 out y) ≡ length out
   same_length = back-length p.used.0 out y (asks-room a) k.kept
 
-  pub segment-refused : {n : ℕ} {d : DocAt} → r ≡ Piece.Refused n d
-      → SegmentIs s at p out marks (back p.used.0 out y) marks (SegmentRead.Refused n d)
-  segment-refused {n} {d} e =
-      let (x, m, i, j) = refused-inv (simple_at s at) n d (sym e ∙ k.is) in
+  pub segment-refused : {z : Refusal} → r ≡ Err z → SegmentIs s at p out marks (back p.used.0 out y) marks (Err z)
+  segment-refused {z} e =
+      let (x, m, i, j) = refused-inv (simple_at s at) z (sym e ∙ k.is) in
       record { is = (x, m, i, j, same_length, refl) }
 
-  pub asks-quoted : {c : Cursor} {u : TextLen} → r ≡ Piece.Quoted c u → p.used.0 + u.0 ≤ 65536
-  asks-quoted {c} {u} e =
-      let m : Moved (length s) at (Piece.Quoted c u) = rw e at k.moved in
+  pub asks-quoted : {c : Cursor} {u : TextLen} {x : Piece} → r ≡ Ok x → x ≡ Piece.Quoted c u → p.used.0 + u.0 ≤ 65536
+  asks-quoted {c} {u} i j =
+      let e : r ≡ Ok (Piece.Quoted c u) = i ∙ ap Ok j in
+      let m : Moved (length s) at (Ok (Piece.Quoted c u)) = rw e at k.moved in
       omega (arith, m.0, m.1, m.2, a.near, a.short)
 
   laid-quoted : (t : Token) (end : ℕ) → simple_at s at ≡ ok t end → t.in_quotes ≡ true
@@ -176,11 +161,12 @@ module _ {s : List ℕ} {at : ℕ} {p : Path} {out marks y : List ℕ} {r : Piec
       go true z h = clash (cc)
       go false z h = h
 
-  pub segment-quoted : {c : Cursor} {u : TextLen} {q : Path} → r ≡ Piece.Quoted c u → q ≡ quoted_c u.0 p
-      → SegmentIs s at p out marks (back p.used.0 out y) marks (SegmentRead.More q c)
+  pub segment-quoted : {c : Cursor} {u : TextLen} {q : Path} {x : Piece} → r ≡ Ok x → x ≡ Piece.Quoted c u → q ≡ quoted_c u.0 p
+      → SegmentIs s at p out marks (back p.used.0 out y) marks (Ok (more q c))
   unfolding segment_to segment_of
-  segment-quoted {c} {u} {q} e z =
-      let m : Moved (length s) at (Piece.Quoted c u) = rw e at k.moved in
+  segment-quoted {c} {u} {q} i' j z =
+      let e : r ≡ Ok (Piece.Quoted c u) = i' ∙ ap Ok j in
+      let m : Moved (length s) at (Ok (Piece.Quoted c u)) = rw e at k.moved in
       let (t, i, f, l) = quoted-inv (simple_at s at) c u (sym e ∙ k.is) in
       let w = scalar_text t.scalar in
       let b : take (p.used.0 + length w) (back p.used.0 out y) ≡ take p.used.0 out ++ w =
@@ -210,15 +196,15 @@ module _ {s : List ℕ} {at : ℕ} {p : Path} {out marks y : List ℕ} {r : Piec
       count-more n l = rw (quoted-count n p) (omega arith)
 
   -- a piece as written: what its bytes are split into
-  module _ (c : Cursor) (b : Bare r c) (m : (at < c.at.0) × (c.at.0 ≤ length s)) where
-    as_written : (out' marks' : List ℕ) (r' : SegmentRead) → Writes s at c p (back p.used.0 out y) marks out' marks' r' → Reads s at p out marks out' marks' r'
+  module _ (c : Cursor) (x : Piece) (n : r ≡ Ok x) (b : Bare x c) (m : (at < c.at.0) × (c.at.0 ≤ length s)) where
+    as_written : (out' marks' : List ℕ) (r' : SegmentRead) → Writes s at c p (back p.used.0 out y) marks out' marks' r'
+        → Reads s at p out marks out' marks' (Ok r')
     unfolding segment_of
-    as_written out' marks' (SegmentRead.Refused n d) w = absurd w
-    as_written out' marks' (SegmentRead.More q d) w =
-        let (t, i, f) = bare-inv (simple_at s at) r c k.is b in
+    as_written out' marks' r' w =
+        let (t, i, f) = bare-inv (simple_at s at) x c (sym n ∙ k.is) b in
         let o : back p.used.0 out y ≡ out = laid-bare t c.at.0 i f in
         let z : scalar_text t.scalar ≡ slice at c.at.0 s = rw i at k.spelt f in
-        let dc : d ≡ c = w.0 in
+        let dc : r'.next ≡ c = w.0 in
         rw dc (
           t,
           i,
@@ -238,19 +224,23 @@ module _ {s : List ℕ} {at : ℕ} {p : Path} {out marks y : List ℕ} {r : Piec
       marks-room = a.marks-room;
     }
 
-  pub segment-unquoted : {c : Cursor} {out' marks' : List ℕ} {r' : SegmentRead} → r ≡ Piece.Unquoted c
-      → WrittenIs s at c p (back p.used.0 out y) marks out' marks' r' → SegmentIs s at p out marks out' marks' r'
-  segment-unquoted {c} {out'} {marks'} {r'} e w = record { is = as_written c (rw e refl) (rw e at k.moved) out' marks' r' w.is }
+  pub segment-unquoted : {c : Cursor} {out' marks' : List ℕ} {r' : SegmentRead} {x : Piece} → r ≡ Ok x → x ≡ Piece.Unquoted c
+      → WrittenIs s at c p (back p.used.0 out y) marks out' marks' r' → SegmentIs s at p out marks out' marks' (Ok r')
+  segment-unquoted {c} {out'} {marks'} {r'} i j w =
+      let e : r ≡ Ok (Piece.Unquoted c) = i ∙ ap Ok j in
+      record { is = as_written c (Piece.Unquoted c) e refl (rw e at k.moved) out' marks' r' w.is }
 
-  pub segment-plain : {kind : ℕ} {c : Cursor} {out' marks' : List ℕ} {r' : SegmentRead} → r ≡ Piece.Plain kind c
-      → WrittenIs s at c p (back p.used.0 out y) marks out' marks' r' → SegmentIs s at p out marks out' marks' r'
-  segment-plain {kind} {c} {out'} {marks'} {r'} e w = record { is = as_written c (rw e refl) (rw e at k.moved) out' marks' r' w.is }
+  pub segment-plain : {kind : ℕ} {c : Cursor} {out' marks' : List ℕ} {r' : SegmentRead} {x : Piece} → r ≡ Ok x → x ≡ Piece.Plain kind c
+      → WrittenIs s at c p (back p.used.0 out y) marks out' marks' r' → SegmentIs s at p out marks out' marks' (Ok r')
+  segment-plain {kind} {c} {out'} {marks'} {r'} i j w =
+      let e : r ≡ Ok (Piece.Plain kind c) = i ∙ ap Ok j in
+      record { is = as_written c (Piece.Plain kind c) e refl (rw e at k.moved) out' marks' r' w.is }
 
-  pub asks-unquoted : {c : Cursor} → r ≡ Piece.Unquoted c → SplitAsked s at c.at.0 p (back p.used.0 out y) marks
-  asks-unquoted {c} e = asks-split c (rw e refl) (rw e at k.moved)
+  pub asks-unquoted : {c : Cursor} {x : Piece} → r ≡ Ok x → x ≡ Piece.Unquoted c → SplitAsked s at c.at.0 p (back p.used.0 out y) marks
+  asks-unquoted {c} i j = let e : r ≡ Ok (Piece.Unquoted c) = i ∙ ap Ok j in asks-split c (Piece.Unquoted c) e refl (rw e at k.moved)
 
-  pub asks-plain : {kind : ℕ} {c : Cursor} → r ≡ Piece.Plain kind c → SplitAsked s at c.at.0 p (back p.used.0 out y) marks
-  asks-plain {kind} {c} e = asks-split c (rw e refl) (rw e at k.moved)
+  pub asks-plain : {kind : ℕ} {c : Cursor} {x : Piece} → r ≡ Ok x → x ≡ Piece.Plain kind c → SplitAsked s at c.at.0 p (back p.used.0 out y) marks
+  asks-plain {kind} {c} i j = let e : r ≡ Ok (Piece.Plain kind c) = i ∙ ap Ok j in asks-split c (Piece.Plain kind c) e refl (rw e at k.moved)
 
 pub ruleset segments = (segment-refused, segment-quoted, segment-unquoted, segment-plain)
 

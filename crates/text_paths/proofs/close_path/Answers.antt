@@ -4,5 +4,5 @@ use Rattle.text_paths.proofs.close_path.Goals as goal
 pub returns-then-any : goal.returns-then-any
 returns-then-any c = search closings
 
-pub returns-else-any : goal.returns-else-any
-returns-else-any c = search closings
+pub returns : goal.returns
+returns c = search closings

@@ -4,5 +4,5 @@ use Rattle.text_elements.proofs.segments.add_byte.Goals as goal
 pub returns-then-ends_element : goal.returns-then-ends_element
 returns-then-ends_element c = search bytes
 
-pub returns-else-ends_element : goal.returns-else-ends_element
-returns-else-ends_element c = search bytes
+pub returns : goal.returns
+returns c = search bytes
