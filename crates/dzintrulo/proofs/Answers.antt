@@ -3,17 +3,15 @@ use mathlib.Core.Path.{◌≡◌, ◌∙◌, ap}
 use mathlib.Core.List.{List}
 use Prim.Native.Nat.{ℕ}
 use Rattle.rules.specs.Jobs as J
-use Rattle.sheet_paths.specs.Answers.{job_of, packed, Packable}
-use Rattle.sheet_paths.specs.declared.Found.{Found}
+use Rattle.sheet_paths.specs.Answers.{Found, job_of, packed, Packable}
 use Rattle.text_lengths.specs.Micrometres.Contracts.{measured_of}
 use Rattle.text_lengths.specs.declared.micrometres.Measured.{Measured}
 use Rattle.job_length.specs.Packed.{packed_length}
 use Rattle.job_look_up.specs.LookUpJob.{answer-packable}
 use Rattle.rules_profile.specs.Profile.{profile_job}
-use Rattle.job_profile.specs.Clauses.{profile_of}
+use Rattle.job_profile.specs.Clauses.{ProfileRead, profile_of}
 use Rattle.job_profile.specs.Packed as profiles
 use Rattle.job_profile.specs.Packed.{packed_profile}
-use Rattle.job_profile.specs.declared.ProfileRead.{ProfileRead}
 
 module _ (table text path : List ℕ) (r : Found) (k : job_of r ≡ J.look_up_job table text path) where
   pub packable-answer : Packable r

@@ -4,7 +4,7 @@
 -- are b', c' and f'. A run of check is `CheckIs document environment trail table text v`. Of look-up, `found` is what `look_up_answer`
 -- gives and `part` what `look_up` hands back. The words are those of Demands and Promises, which say the same of the rules' jobs. Last,
 -- what is promised of `length`.
-use Rattle.std.specs.Prelude.{◌≡◌, refl, ℕ, ◌+◌, ◌-◌, ◌≤◌, List, [], true, false, ◌↔◌, length, replicate}
+use Rattle.std.specs.Prelude.{Ok, Err, ◌≡◌, refl, ℕ, ◌+◌, ◌-◌, ◌≤◌, List, [], true, false, ◌↔◌, length, replicate}
 use Rattle.std.proofs.Common.{sym, ◌∙◌}
 use Rattle.std.proofs.Math.Path.{ap}
 use Rattle.std.proofs.Math.Option.{Option, none, some}
@@ -34,12 +34,13 @@ use Rattle.theory.specs.LookUpSteps.{found_none, look-up-path}
 use Rattle.theory.specs.Micrometres.{Exact}
 use Rattle.theory.specs.Demands as demands
 use Rattle.theory.specs.Promises as promises
+use Rattle.text_chars.specs.Cursor.{refusal}
 use Rattle.text_chars.specs.declared.DocAt.{DocAt}
+use Rattle.text_chars.specs.declared.Refusal.{Refusal}
 use Rattle.text_chars.specs.Parts.{part_slice}
 use Rattle.text_lengths.specs.Micrometres.Contracts.{measured_of}
 use Rattle.text_lengths.specs.declared.micrometres.Measured.{Measured}
-use Rattle.sheet_paths.specs.Answers.{job_of, part_of, refused-part}
-use Rattle.sheet_paths.specs.declared.Found.{Found}
+use Rattle.sheet_paths.specs.Answers.{Found, part, job_of, part_of, refused-part}
 use Rattle.job_results.specs.Clauses.{ResolveIs, CheckIs}
 use Rattle.job_results.specs.declared.Resolution.{Resolution}
 use Rattle.job_results.specs.declared.Verdict.{Verdict}
@@ -200,16 +201,15 @@ module _ {document environment trail table text : List ℕ} {v : Verdict} (run :
 
 module _ (table text path : List ℕ) {found : Found} (run : job_of found ≡ J.look_up_job table text path) where
   -- "a refused look-up hands back an empty part"
-  pub refused-look-up : {part : List ℕ} {number : ℕ} {place : DocAt}
-      → found ≡ Found.Refused number place → part ≡ part_of table (J.look_up_job table text path) → part ≡ []
-  refused-look-up {number = number} {place = place} h q = q ∙ ap (part_of table) (sym (rw h at run)) ∙ refused-part table number place
+  pub refused-look-up : {part : List ℕ} {x : Refusal} → found ≡ Err x → part ≡ part_of table (J.look_up_job table text path) → part ≡ []
+  refused-look-up {x = x} h q = q ∙ ap (part_of table) (sym (rw h at run)) ∙ refused-part table x.number x.place
 
   -- a refusal has a number of the job's list, and a place in the path text, or its length
-  pub look-up-refusal : {number : ℕ} {place : DocAt} → found ≡ Found.Refused number place
-      → promises.OneOf look_up_numbers number × (place.0 ≤ length path)
-  look-up-refusal {number} {place} h =
-      let n : number ≡ (J.look_up_job table text path).number = ap (λ (q : J.Found). q.number) (rw h at run) in
-      let p : place.0 ≡ (J.look_up_job table text path).place = ap (λ (q : J.Found). q.place) (rw h at run) in (
+  pub look-up-refusal : {x : Refusal} → found ≡ Err x
+      → promises.OneOf look_up_numbers x.number × (x.place.0 ≤ length path)
+  look-up-refusal {x} h =
+      let n : x.number ≡ (J.look_up_job table text path).number = ap (λ (q : J.Found). q.number) (rw h at run) in
+      let p : x.place.0 ≡ (J.look_up_job table text path).place = ap (λ (q : J.Found). q.place) (rw h at run) in (
         rw n (promises.look-up-numbers table text path (runs.found-refuses table text path run h)),
         rw p (promises.look-up-place table text path),
       )
@@ -217,7 +217,7 @@ module _ (table text path : List ℕ) {found : Found} (run : job_of found ≡ J.
   module _ (lent : promises.LentTable table text path) (whole : is_whole table (length text) ≡ true) (well-formed : ill_formed path ≡ none)
       (names : List Text) (end : ℕ) (good-path : path_text path ≡ ok names end) where
     -- 16 exactly if the path names nothing
-    pub look-up-16 : (found ≡ Found.Refused 16 (record { 0 = 0 })) ↔ (value_named table text names 0 ≡ none)
+    pub look-up-16 : (found ≡ Err (refusal 16 (record { 0 = 0 }))) ↔ (value_named table text names 0 ≡ none)
     look-up-16 =
         let (to, _) = promises.look-up-16 table text path lent whole well-formed names end good-path in (
           λ h. to (sym (ap (λ (q : J.Found). q.number) (rw h at run))),
@@ -229,7 +229,7 @@ module _ (table text path : List ℕ) {found : Found} (run : job_of found ≡ J.
     -- else precisely the records of the value that it names, from its first byte up to its end
     pub look-up-part : (at : ℕ) → value_named table text names 0 ≡ some at
         → (after : ℕ) × (after_value max_nesting table (length text) at ≡ some after)
-        × (found ≡ Found.Part (record { 0 = at }) (record { 0 = after - at }))
+        × (found ≡ Ok (part (record { 0 = at }) (record { 0 = after - at })))
     look-up-part at v =
         let (after, e, is) = promises.look-up-found table text path lent whole well-formed names end good-path at v in
         let part = (promises.look-up-part table text path).0 (ap (λ (q : J.Found). q.number) is) in

@@ -1,9 +1,11 @@
 -- Runs of resolve, check and look-up, by their contracts: what a run hands back is what the job of the rules does.
-use Rattle.std.specs.Prelude.{◌≡◌, ℕ, ◌≤◌, List, length, take}
+use Rattle.std.specs.Prelude.{Ok, Err, ◌≡◌, ℕ, ◌≤◌, List, length, take}
 use Rattle.std.proofs.Math.Path.{refl, ap}
 use Rattle.std.proofs.Common.{sym, ◌∙◌, arith}
 use Rattle.std.proofs.Math.Seq.{take-append_seam}
+use Rattle.text_chars.specs.Cursor.{refusal}
 use Rattle.text_chars.specs.declared.DocAt.{DocAt}
+use Rattle.text_chars.specs.declared.Refusal.{Refusal}
 use Rattle.text_chars.specs.declared.RecLen.{RecLen}
 use Rattle.text_chars.specs.declared.TextLen.{TextLen}
 use Rattle.answers.specs.Theory.Sound.{clash}
@@ -13,8 +15,7 @@ use Rattle.rules.specs.Jobs.{Resolved, Buffers, resolve_job, filled, buffers_of,
 use Rattle.theory.specs.Jobs.{Approval, approval-inv, approval-is}
 use Rattle.theory.specs.BothJobs.{resolved-approval}
 use Rattle.theory.specs.Promises.{Refuses, look-up-part}
-use Rattle.sheet_paths.specs.Answers.{job_of}
-use Rattle.sheet_paths.specs.declared.Found.{Found}
+use Rattle.sheet_paths.specs.Answers.{Found, part, job_of}
 use Rattle.job_results.specs.Answers.{Located, resolution_told, located_told, resolved_told, verdict_of}
 use Rattle.job_results.specs.Unpacking.{Roomy, refusal-some}
 use Rattle.job_results.specs.Bits.{resolve-roomy}
@@ -150,23 +151,23 @@ approval-run {d} {e} {trail} {table} {text} a = record {
 
 module _ (table text path : List ℕ) {found : Found} (run : job_of found ≡ J.look_up_job table text path) where
   -- a refusal of a run is one of the rules: what is found is not empty
-  pub found-refuses : {number : ℕ} {place : DocAt} → found ≡ Found.Refused number place → Refuses (J.look_up_job table text path).number
+  pub found-refuses : {x : Refusal} → found ≡ Err x → Refuses (J.look_up_job table text path).number
   found-refuses h z =
       let None-found = ap (λ (q : J.Found). q.size) (rw h at run) in
       absurd (omega (arith, None-found, ((look-up-part table text path).0 z).0))
 
-  pub found_nothing : J.look_up_job table text path ≡ J.not_found (nowhere 16) → found ≡ Found.Refused 16 (record { 0 = 0 })
+  pub found_nothing : J.look_up_job table text path ≡ J.not_found (nowhere 16) → found ≡ Err (refusal 16 (record { 0 = 0 }))
   unfolding J.not_found
   found_nothing e = go found (run ∙ e)
     where
-      go : (f : Found) → job_of f ≡ J.not_found (nowhere 16) → f ≡ Found.Refused 16 (record { 0 = 0 })
-      go (Found.Part start size) q = absurd (omega (arith, ap (λ (i : J.Found). i.number) q))
-      go (Found.Refused number place) q = rw (ap (λ (i : J.Found). i.number) q, ap (λ (i : J.Found). i.place) q) refl
+      go : (f : Found) → job_of f ≡ J.not_found (nowhere 16) → f ≡ Err (refusal 16 (record { 0 = 0 }))
+      go (Ok v) q = absurd (omega (arith, ap (λ (i : J.Found). i.number) q))
+      go (Err x) q = rw (ap (λ (i : J.Found). i.number) q, ap (λ (i : J.Found). i.place) q) refl
 
   pub found_part : {start size : ℕ} → J.look_up_job table text path ≡ J.part_at start size → 1 ≤ size
-      → found ≡ Found.Part (record { 0 = start }) (record { 0 = size })
+      → found ≡ Ok (part (record { 0 = start }) (record { 0 = size }))
   found_part {start} {size} e l = go found (run ∙ e)
     where
-      go : (f : Found) → job_of f ≡ J.part_at start size → f ≡ Found.Part (record { 0 = start }) (record { 0 = size })
-      go (Found.Part at long) q = rw (ap (λ (i : J.Found). i.start) q, ap (λ (i : J.Found). i.size) q) refl
-      go (Found.Refused number place) q = absurd (omega (arith, l, ap (λ (i : J.Found). i.size) q))
+      go : (f : Found) → job_of f ≡ J.part_at start size → f ≡ Ok (part (record { 0 = start }) (record { 0 = size }))
+      go (Ok v) q = rw (ap (λ (i : J.Found). i.start) q, ap (λ (i : J.Found). i.size) q) refl
+      go (Err x) q = absurd (omega (arith, l, ap (λ (i : J.Found). i.size) q))

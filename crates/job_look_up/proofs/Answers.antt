@@ -1,4 +1,5 @@
 -- One law for each answer of look-up.
+use Rattle.std.specs.Prelude.{Ok, Err}
 use mathlib.Core.Path.{◌≡◌, refl, sym, ◌∙◌, ap}
 use mathlib.Core.Bool.{Bool, true, false}
 use mathlib.Core.List.{List, [], ◌∷◌}
@@ -17,17 +18,16 @@ use Rattle.rules.specs.LookUp.{is_whole}
 use Rattle.rules.specs.Jobs as J
 use Rattle.theory.specs.LookUpSteps.{look-up-long, look-up-not-whole, look-up-ill-formed}
 use Rattle.theory.specs.LookUps.{look-up-part}
-use Rattle.text_chars.specs.Cursor.{doc, ill_at}
+use Rattle.text_chars.specs.Cursor.{doc, refusal, ill_at}
 use Rattle.text_chars.specs.declared.DocAt.{DocAt}
-use Rattle.text_chars.specs.declared.RecAt.{RecAt}
-use Rattle.text_chars.specs.declared.RecLen.{RecLen}
 use Rattle.std.specs.Prelude.{Some, None, Option as Maybe}
+use Rattle.text_chars.specs.declared.Refusal.{Refusal}
 use Rattle.text_elements.specs.Marks.Holding.{Held}
 use Rattle.text_paths.specs.Texts.{PathIs, HeldTexts, read_of}
 use Rattle.text_paths.specs.declared.PathRead.{PathRead}
 use Rattle.sheet_paths.specs.Clauses.{PartNamedIs}
-use Rattle.sheet_paths.specs.Answers.{job_of, part_of}
-use Rattle.sheet_paths.specs.declared.Found.{Found}
+use Rattle.sheet_paths.specs.Answers.{Found, job_of, part_of}
+use Rattle.sheet_paths.specs.declared.Part.{Part}
 use Rattle.job_look_up.specs.LookUpJob.{short-table}
 
 -- ---- the value that a path text names
@@ -60,7 +60,7 @@ module _ {path names marks : List ℕ} {r : PathRead} (k : PathIs path names mar
 
   module _ {number : ℕ} {place : DocAt} (z : r ≡ PathRead.Refused number place) where
     bad : (table text : List ℕ) (x : Scan (List Text)) → path_text path ≡ x → PathRead.Refused number place ≡ read_of x
-        → job_of (Found.Refused number place) ≡ J.looked_up table text x
+        → job_of (Err (refusal number place)) ≡ J.looked_up table text x
     unfolding J.looked_up J.not_found
     bad table text (ok ts end) e f = clash (cc)
     bad table text (refused x) e f =
@@ -68,29 +68,29 @@ module _ {path names marks : List ℕ} {r : PathRead} (k : PathIs path names mar
         let p : place ≡ doc (place_of x) = cc in
         rw (n, p)
 
-    pub path-refused : (table text : List ℕ) → job_of (Found.Refused number place) ≡ J.looked_up table text (path_text path)
+    pub path-refused : (table text : List ℕ) → job_of (Err (refusal number place)) ≡ J.looked_up table text (path_text path)
     path-refused table text = bad table text (path_text path) refl (sym z ∙ k.is)
 
 -- ---- the job
 
 module _ (table text path : List ℕ) where
   long : (length table ≤ max_room → length text ≤ max_room → length path ≤ max_path_text → ⊥)
-      → job_of (Found.Refused 1 (doc 0)) ≡ J.look_up_job table text path
+      → job_of (Err (refusal 1 (doc 0))) ≡ J.look_up_job table text path
   unfolding J.not_found
   long h = sym (look-up-long table text path h)
 
-  pub long-table : max_room < length table → job_of (Found.Refused 1 (doc 0)) ≡ J.look_up_job table text path
+  pub long-table : max_room < length table → job_of (Err (refusal 1 (doc 0))) ≡ J.look_up_job table text path
   long-table l = long (λ a b c. absurd (omega arith))
 
-  pub long-text : max_room < length text → job_of (Found.Refused 1 (doc 0)) ≡ J.look_up_job table text path
+  pub long-text : max_room < length text → job_of (Err (refusal 1 (doc 0))) ≡ J.look_up_job table text path
   long-text l = long (λ a b c. absurd (omega arith))
 
-  pub long_path : max_path_text < length path → job_of (Found.Refused 1 (doc 0)) ≡ J.look_up_job table text path
+  pub long_path : max_path_text < length path → job_of (Err (refusal 1 (doc 0))) ≡ J.look_up_job table text path
   long_path l = long (λ a b c. absurd (omega arith))
 
   module _ (short : length table ≤ max_room) (short-text : length text ≤ max_room) (short-path : length path ≤ max_path_text) {w : Bool}
       (j : w ≡ is_whole table (length text)) where
-    pub not-whole : w ≡ false → job_of (Found.Refused 15 (doc 0)) ≡ J.look_up_job table text path
+    pub not-whole : w ≡ false → job_of (Err (refusal 15 (doc 0))) ≡ J.look_up_job table text path
     unfolding J.not_found
     not-whole e = sym (look-up-not-whole table text path short short-text short-path (sym j ∙ e))
 
@@ -103,7 +103,7 @@ module _ (table text path : List ℕ) where
       ill-none none z = refl
       ill-none (some q) z = clash (cc)
 
-      pub not-utf8 : {place : DocAt} → i ≡ Some place → job_of (Found.Refused 2 place) ≡ J.look_up_job table text path
+      pub not-utf8 : {place : DocAt} → i ≡ Some place → job_of (Err (refusal 2 place)) ≡ J.look_up_job table text path
       unfolding J.not_found
       not-utf8 {place} z =
           sym (look-up-ill-formed table text path short short-text short-path (sym j ∙ e) place.0 (ill-some (ill_formed path) place (sym z ∙ g)))
@@ -122,33 +122,33 @@ module _ (table text path : List ℕ) (r : Found) (k : job_of r ≡ J.look_up_jo
   abbrev job : J.Found
   job = J.look_up_job table text path
 
-  module _ {start : RecAt} {size : RecLen} (z : r ≡ Found.Part start size) where
-    is-part : job_of (Found.Part start size) ≡ job
+  module _ {v : Part} (z : r ≡ Ok v) where
+    is-part : job_of (Ok v) ≡ job
     is-part = ap job_of (sym z) ∙ k
 
     part-number : job.number ≡ 0
     part-number = sym (ap (λ (f : J.Found). f.number) is-part)
 
-    part-start : start.0 ≡ job.start
+    part-start : v.start.0 ≡ job.start
     part-start = ap (λ (f : J.Found). f.start) is-part
 
-    part-size : size.0 ≡ job.size
+    part-size : v.size.0 ≡ job.size
     part-size = ap (λ (f : J.Found). f.size) is-part
 
-    pub part-inside : start.0 + size.0 ≤ length table
+    pub part-inside : v.start.0 + v.size.0 ≤ length table
     part-inside = rw (part-start, part-size) (look-up-part table text path part-number).1
 
-    pub part-fits : start.0 + size.0 < 2 ^ 64
+    pub part-fits : v.start.0 + v.size.0 < 2 ^ 64
     part-fits = let h = part-inside in let l = short-table table text path part-number in omega arith
 
-    pub part-handed : take (start.0 + size.0 - start.0) (drop start.0 table) ≡ part_of table job
+    pub part-handed : take (v.start.0 + v.size.0 - v.start.0) (drop v.start.0 table) ≡ part_of table job
     unfolding part_of
-    part-handed = let w : start.0 + size.0 - start.0 ≡ size.0 = omega arith in rw (w, part-start, part-size)
+    part-handed = let w : v.start.0 + v.size.0 - v.start.0 ≡ v.size.0 = omega arith in rw (w, part-start, part-size)
 
-  module _ {number : ℕ} {place : DocAt} (z : r ≡ Found.Refused number place) where
+  module _ {e : Refusal} (z : r ≡ Err e) where
     pub none-handed : take 0 (drop 0 table) ≡ part_of table job
     unfolding part_of
-    none-handed = let e : job_of (Found.Refused number place) ≡ job = ap job_of (sym z) ∙ k in rw (← e)
+    none-handed = let g : job_of (Err e) ≡ job = ap job_of (sym z) ∙ k in rw (← g)
 
 pub ruleset names = (path-named, path-refused)
 

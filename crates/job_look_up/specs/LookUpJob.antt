@@ -1,6 +1,6 @@
 -- What the promise of look-up says of its answers: a refusal's number is not 0, every value has room in its bits, and the header's functions
 -- take number, place, start and size out of them.
-use Rattle.std.specs.Prelude.{◌≡◌, Bool, cond, List, [], ◌∷◌, ℕ, ◌≤◌, ◌<◌, eqb}
+use Rattle.std.specs.Prelude.{Err, ◌≡◌, Bool, cond, List, [], ◌∷◌, ℕ, ◌≤◌, ◌<◌, eqb}
 use Rattle.std.proofs.Math.Path.{refl}
 use Rattle.std.proofs.Common.{ap, arith}
 use Rattle.std.proofs.Math.Bool.{true, false}
@@ -14,10 +14,9 @@ use Rattle.rules.specs.Jobs as J
 use Rattle.theory.specs.LookUpSteps.{look-up-long}
 use Rattle.theory.specs.LookUps.{Answered, part, refusal, look-up-answered, look-up-place}
 use Rattle.rules.specs.Refusals.{look_up_numbers}
-use Rattle.text_chars.specs.declared.DocAt.{DocAt}
-use Rattle.sheet_paths.specs.Answers.{job_of, Packable}
+use Rattle.text_chars.specs.declared.Refusal.{Refusal}
+use Rattle.sheet_paths.specs.Answers.{Found, job_of, Packable}
 use Rattle.sheet_paths.specs.Unpacking.{Roomy, Unpacks, unpacks, packable}
-use Rattle.sheet_paths.specs.declared.Found.{Found}
 
 -- every number of a look-up's refusals is one, and has room in six bits
 abbrev Under : List ℕ → Type 0
@@ -69,5 +68,5 @@ module _ (table text path : List ℕ) where
     answer-packable = packable r (rw k answer-roomy)
 
     -- a refused answer's number is not 0: no refusal passes for a part
-    pub refused-number : {number : ℕ} {place : DocAt} → r ≡ Found.Refused number place → 1 ≤ number
-    refused-number {number} {place} e = let h : Packable (Found.Refused number place) = rw e at answer-packable in h.room.0
+    pub refused-number : {x : Refusal} → r ≡ Err x → 1 ≤ x.number
+    refused-number {x} e = let h : Packable (Err x) = rw e at answer-packable in h.room.0

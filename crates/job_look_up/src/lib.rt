@@ -9,12 +9,12 @@ ghost use Rattle.rules.specs.Jobs.{looked_up, look_up_job};
 ghost use Rattle.sheet_paths.specs.Answers.{job_of, part_of};
 
 use codes::{limits, refusals};
-use sheet_paths::Found;
-use text_chars::{DocAt, TextLen};
+use sheet_paths::Part;
+use text_chars::{DocAt, Refusal, TextLen};
 use text_paths::PathRead;
 
 // What the path of a path text names. It is read into buffers of this function's own.
-fn look_up_path(table: &[u8], text: &[u8], path: &[u8]) -> Found
+fn look_up_path(table: &[u8], text: &[u8], path: &[u8]) -> Result<Part, Refusal>
     requires { (length table.now ≤ max_room) × (length text.now ≤ max_room) × (length path.now ≤ max_path_text) }
     ensures { job_of result ≡ looked_up table.now text.now (path_text path.now) }
 {
@@ -24,45 +24,45 @@ fn look_up_path(table: &[u8], text: &[u8], path: &[u8]) -> Found
         PathRead::Elements { count } => {
             sheet_paths::part_named(table, text, &names, &marks, count)
         }
-        PathRead::Refused { number, place } => Found::Refused { number, place },
+        PathRead::Refused { number, place } => Err(Refusal { number, place }),
     }
 }
 
 /// Looks a path up in a table: what the rules of the job give, for any bytes.
-pub fn look_up_answer(table: &[u8], text: &[u8], path: &[u8]) -> Found
+pub fn look_up_answer(table: &[u8], text: &[u8], path: &[u8]) -> Result<Part, Refusal>
     ensures { job_of result ≡ look_up_job table.now text.now path.now }
 {
     if limits::ROOM < table.len() {
-        return Found::Refused {
+        return Err(Refusal {
             number: refusals::BAD_INPUT,
             place: DocAt(0),
-        };
+        });
     }
     if limits::ROOM < text.len() {
-        return Found::Refused {
+        return Err(Refusal {
             number: refusals::BAD_INPUT,
             place: DocAt(0),
-        };
+        });
     }
     if limits::PATH_TEXT < path.len() {
-        return Found::Refused {
+        return Err(Refusal {
             number: refusals::BAD_INPUT,
             place: DocAt(0),
-        };
+        });
     }
     if sheet_records::is_whole(table, TextLen(text.len())) {
         match text_chars::ill_formed(path) {
-            Some(place) => Found::Refused {
+            Some(place) => Err(Refusal {
                 number: refusals::ILL_FORMED_UTF8,
                 place,
-            },
+            }),
             None => look_up_path(table, text, path),
         }
     } else {
-        Found::Refused {
+        Err(Refusal {
             number: refusals::NOT_A_TABLE,
             place: DocAt(0),
-        }
+        })
     }
 }
 
@@ -71,11 +71,11 @@ pub fn look_up<'a>(table: &'a [u8], text: &[u8], path: &[u8]) -> &'a [u8]
     ensures { result.now ≡ part_of table.now (look_up_job table.now text.now path.now) }
 {
     match look_up_answer(table, text, path) {
-        Found::Part { start, size } => {
-            let a = start.0;
-            let e = a + size.0;
+        Ok(part) => {
+            let a = part.start.0;
+            let e = a + part.size.0;
             &table[a..e]
         }
-        Found::Refused { number, place } => &table[0..0],
+        Err(_) => &table[0..0],
     }
 }

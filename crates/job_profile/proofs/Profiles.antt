@@ -1,4 +1,5 @@
 -- One law for each answer of the job.
+use Rattle.std.specs.Prelude.{Some, None, Ok, Err}
 use mathlib.Core.Path.{◌≡◌, refl, sym, ◌∙◌, ap}
 use mathlib.Core.Bool.{Bool, true, false}
 use mathlib.Core.List.{List, [], ◌∷◌}
@@ -19,21 +20,21 @@ use Rattle.theory.specs.LookUps.{named-whole}
 use Rattle.rules_profile.specs.Profile.{thousandth, no_profile, profile, unit, plate, min, max, text_of_kind, text_named}
 use Rattle.rules_profile.specs.Profile.{edition_of, edition_named, step_of, bare_length, written_length}
 use Rattle.rules_profile.specs.Profile.{limits_of, first_edition, second_edition, by_edition, profile_job}
-use Rattle.text_chars.specs.Cursor.{ByteIs}
+use Rattle.text_chars.specs.Cursor.{doc, refusal, ByteIs}
 use Rattle.text_chars.specs.Parts.{part_slice}
 use Rattle.text_chars.specs.declared.RecAt.{RecAt}
-use Rattle.sheet_records.specs.Kinds.Contracts.{PairIs, EndIs, near_room}
+use Rattle.text_chars.specs.declared.Refusal.{Refusal}
+use Rattle.sheet_records.specs.Kinds.Contracts.{End, PairIs, EndIs, near_room}
 use Rattle.sheet_records.specs.Kinds.Ends.{none_is, some_is, between_is}
-use Rattle.sheet_records.specs.declared.kinds.End.{End}
 use Rattle.sheet_records.specs.Clauses.{past_member}
 use Rattle.text_profiles.specs.Clauses.{max_length, edition_as, length_as, LengthIs}
 use Rattle.text_profiles.specs.declared.Edition as code
 use Rattle.text_profiles.specs.declared.Length.{Length}
 use Rattle.job_length.specs.Clauses.{WholeTable}
-use Rattle.job_profile.specs.Clauses.{ValueAt, TextKind, text_or, TextIs, profile_of}
+use Rattle.job_profile.specs.Clauses.{ProfileRead, bounds, ValueAt, TextKind, text_or, TextIs, profile_of}
 use Rattle.job_profile.specs.Editions.{profile-long, profile-not-whole, profile-editions}
 use Rattle.job_profile.specs.Packed.{packed_profile, Roomy, Packable}
-use Rattle.job_profile.specs.declared.ProfileRead.{ProfileRead}
+use Rattle.job_profile.specs.declared.Limits.{Limits}
 
 -- ---- places
 
@@ -49,10 +50,10 @@ value-near {table} {text} {at} w v =
     omega (arith, w.short)
 
 module _ (table text key : List ℕ) (at : ℕ) {r : End} (k : EndIs (member_at table text key at) (at + 1) (past_member table) r) where
-  member-none : r ≡ End.Nowhere → member_at table text key at ≡ none
+  member-none : r ≡ None → member_at table text key at ≡ none
   member-none e = none_is k e
 
-  module _ {place : RecAt} (e : r ≡ End.At place) where
+  module _ {place : RecAt} (e : r ≡ Some place) where
     member-some : member_at table text key at ≡ some place.0
     member-some = some_is k e
 
@@ -93,11 +94,11 @@ module _ (table text key : List ℕ) (kind at : ℕ) {r : End} (k : EndIs (membe
   abbrev wanted : Option Text
   wanted = text_of_kind table text kind (member_at table text key at)
 
-  pub text-missing : r ≡ End.Nowhere → TextIs wanted []
+  pub text-missing : r ≡ None → TextIs wanted []
   unfolding text_of_kind
   text-missing e = no_text (ap (λ (o : Option ℕ). text_of_kind table text kind o) (member-none table text key at k e))
 
-  module _ {place : RecAt} (e : r ≡ End.At place) {b : ℕ} (i : ByteIs table place.0 b) where
+  module _ {place : RecAt} (e : r ≡ Some place) {b : ℕ} (i : ByteIs table place.0 b) where
     at_place : wanted ≡ text_of_kind table text kind (some place.0)
     at_place = ap (λ (o : Option ℕ). text_of_kind table text kind o) (member-some table text key at k e)
 
@@ -141,13 +142,13 @@ pub ruleset record-places = (arith, offset_near, size-near, offset-fits, size_fi
 -- ---- a member of `plate`
 
 module _ (table text key : List ℕ) (kind : ℕ) {r : End} (k : EndIs (member_at table text plate 0) (0 + 1) (past_member table) r) where
-  pub plate-missing : r ≡ End.Nowhere → TextIs (text_named table text kind (plate ∷ key ∷ [])) []
+  pub plate-missing : r ≡ None → TextIs (text_named table text kind (plate ∷ key ∷ [])) []
   unfolding text_named text_of_kind
   plate-missing e =
       let nothing = named_none table text plate (key ∷ []) 0 (member-none table text plate 0 k e) in
       no_text (ap (λ (o : Option ℕ). text_of_kind table text kind o) nothing)
 
-  pub plate-here : {place : RecAt} {s : Text} → r ≡ End.At place
+  pub plate-here : {place : RecAt} {s : Text} → r ≡ Some place
       → TextIs (text_of_kind table text kind (member_at table text key place.0)) s → TextIs (text_named table text kind (plate ∷ key ∷ [])) s
   unfolding text_named
   plate-here {place} {s} e t = rw (ap (λ (o : Option ℕ). text_of_kind table text kind o) along) t
@@ -184,21 +185,21 @@ written-or (some t) = refl
 -- ---- both limits
 
 module _ (edition : ℕ) (low high : Length) where
-  pub no-minimum : low ≡ Length.Missing → profile_of (ProfileRead.Refused 41) ≡ limits_of edition (length_as low) (length_as high)
+  pub no-minimum : low ≡ Length.Missing → profile_of (Err (refusal 41 (doc 0))) ≡ limits_of edition (length_as low) (length_as high)
   unfolding limits_of
   no-minimum e = rw (e, limits_of)
 
   module _ {a : ℕ} (e : low ≡ Length.TenThousandths a) where
-    pub no-maximum : high ≡ Length.Missing → profile_of (ProfileRead.Refused 42) ≡ limits_of edition (length_as low) (length_as high)
+    pub no-maximum : high ≡ Length.Missing → profile_of (Err (refusal 42 (doc 0))) ≡ limits_of edition (length_as low) (length_as high)
     unfolding limits_of
     no-maximum f = rw (e, f, limits_of)
 
     module _ {b : ℕ} (f : high ≡ Length.TenThousandths b) where
-      pub above : b < a → profile_of (ProfileRead.Refused 43) ≡ limits_of edition (length_as low) (length_as high)
+      pub above : b < a → profile_of (Err (refusal 43 (doc 0))) ≡ limits_of edition (length_as low) (length_as high)
       unfolding limits_of
       above h = rw (e, f, lt-ltb b a h, limits_of)
 
-      pub in_order : a ≤ b → profile_of (ProfileRead.Limits edition a b) ≡ limits_of edition (length_as low) (length_as high)
+      pub in_order : a ≤ b → profile_of (Ok (bounds edition a b)) ≡ limits_of edition (length_as low) (length_as high)
       unfolding limits_of
       in_order h = rw (e, f, le-ltb b a h, limits_of)
 
@@ -214,7 +215,7 @@ module _ (table text : List ℕ) {u : Text} (k : TextIs (text_of_kind table text
       s.is ∙ ap (λ (t : Text). step_of (some t)) k.is ∙ step-or (text_of_kind table text 5 (member_at table text unit 0))
       ∙ ap (λ (o : Option ℕ). step_of (text_of_kind table text 5 o)) (sym (named-one table text unit 0))
 
-  pub first-no-unit : l ≡ Length.Missing → profile_of (ProfileRead.Refused 40) ≡ first_edition table text
+  pub first-no-unit : l ≡ Length.Missing → profile_of (Err (refusal 40 (doc 0))) ≡ first_edition table text
   unfolding first_edition
   first-no-unit e = let z : none ≡ step_of (text_named table text 5 (unit ∷ [])) = rw e at step_is in sym (rw (sym z, first_edition))
 
@@ -244,13 +245,13 @@ pub ruleset firsts = (first-no-unit, first-limits)
 -- ---- edition 2
 
 module _ (table text : List ℕ) {r : End} (k : EndIs (member_at table text unit 0) (0 + 1) (past_member table) r) where
-  pub second-unit : {place : RecAt} → r ≡ End.At place → profile_of (ProfileRead.Refused 40) ≡ second_edition table text
+  pub second-unit : {place : RecAt} → r ≡ Some place → profile_of (Err (refusal 40 (doc 0))) ≡ second_edition table text
   unfolding second_edition
   second-unit {place} e =
       let z : value_named table text (unit ∷ []) 0 ≡ some place.0 = named-one table text unit 0 ∙ member-some table text unit 0 k e in
       sym (rw (z, second_edition))
 
-  module _ (e : r ≡ End.Nowhere) {a b : Text} (i : TextIs (text_named table text 5 (plate ∷ min ∷ [])) a)
+  module _ (e : r ≡ None) {a b : Text} (i : TextIs (text_named table text 5 (plate ∷ min ∷ [])) a)
       (j : TextIs (text_named table text 5 (plate ∷ max ∷ [])) b) {low high : Length} (x : LengthIs (written_length (some a)) max_length low)
       (y : LengthIs (written_length (some b)) max_length high) where
     pub second-limits : (p : ProfileRead) → profile_of p ≡ limits_of 2 (length_as low) (length_as high) → profile_of p ≡ second_edition table text
@@ -269,16 +270,16 @@ pub ruleset seconds = (second-unit, second-limits)
 -- ---- the job
 
 module _ (table text : List ℕ) where
-  pub long-table : max_room < length table → profile_of (ProfileRead.Refused 1) ≡ profile_job table text
+  pub long-table : max_room < length table → profile_of (Err (refusal 1 (doc 0))) ≡ profile_job table text
   unfolding no_profile profile_job
   long-table l = sym (profile-long first_edition second_edition table text (λ a b. absurd (omega arith)))
 
-  pub long-text : max_room < length text → profile_of (ProfileRead.Refused 1) ≡ profile_job table text
+  pub long-text : max_room < length text → profile_of (Err (refusal 1 (doc 0))) ≡ profile_job table text
   unfolding no_profile profile_job
   long-text l = sym (profile-long first_edition second_edition table text (λ a b. absurd (omega arith)))
 
   module _ (short : length table ≤ max_room) (short-text : length text ≤ max_room) {w : Bool} (j : w ≡ is_whole table (length text)) where
-    pub not-whole : w ≡ false → profile_of (ProfileRead.Refused 15) ≡ profile_job table text
+    pub not-whole : w ≡ false → profile_of (Err (refusal 15 (doc 0))) ≡ profile_job table text
     unfolding no_profile profile_job
     not-whole e = sym (profile-not-whole first_edition second_edition table text short short-text (sym j ∙ e))
 
@@ -302,7 +303,7 @@ module _ (table text : List ℕ) where
       unfolding by_edition
       of-second r z q = q ∙ sym (by-edition ∙ rw z)
 
-      pub of_none : x ≡ code.Edition.Unnamed → profile_of (ProfileRead.Refused 39) ≡ profile_job table text
+      pub of_none : x ≡ code.Edition.Unnamed → profile_of (Err (refusal 39 (doc 0))) ≡ profile_job table text
       unfolding by_edition no_profile
       of_none z = sym (by-edition ∙ rw z)
 
@@ -314,25 +315,24 @@ pub limit-fits : (a : ℕ) → a < 33554432 → a * 8589934592 < 2 ^ 64
 limit-fits a l = omega arith
 
 module _ {p : ProfileRead} where
-  module _ {edition minimum maximum : ℕ} (e : p ≡ ProfileRead.Limits edition minimum maximum) (h : Packable p) where
-    room : Roomy (record { number = 0; edition = edition; minimum = minimum; maximum = maximum })
+  module _ {v : Limits} (e : p ≡ Ok v) (h : Packable p) where
+    room : Roomy (profile_of (Ok v))
     room = rw e at h.room
 
-    pub minimum-small : minimum < 33554432
+    pub minimum-small : v.minimum < 33554432
     minimum-small = room.minimum
 
-    pub maximum-small : maximum < 33554432
+    pub maximum-small : v.maximum < 33554432
     maximum-small = room.maximum
 
-    pub all_fit : (a b : ℕ) → a < 33554432 → b < 33554432 → edition * 64 + a * 256 + b * 8589934592 < 2 ^ 64
+    pub all_fit : (a b : ℕ) → a < 33554432 → b < 33554432 → v.edition * 64 + a * 256 + b * 8589934592 < 2 ^ 64
     all_fit a b l m = omega (arith, room.edition)
 
-  pub pack-limits : {edition minimum maximum : ℕ} → p ≡ ProfileRead.Limits edition minimum maximum
-      → edition * 64 + minimum * 256 + maximum * 8589934592 ≡ packed_profile (profile_of p)
+  pub pack-limits : {v : Limits} → p ≡ Ok v → v.edition * 64 + v.minimum * 256 + v.maximum * 8589934592 ≡ packed_profile (profile_of p)
   unfolding packed_profile
   pack-limits e = rw (e, packed_profile) (omega arith)
 
-  pub pack-refusal : {n : ℕ} → p ≡ ProfileRead.Refused n → n ≡ packed_profile (profile_of p)
+  pub pack-refusal : {x : Refusal} → p ≡ Err x → x.number ≡ packed_profile (profile_of p)
   unfolding packed_profile
   pack-refusal e = rw (e, packed_profile) (omega arith)
 

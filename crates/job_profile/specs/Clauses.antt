@@ -1,11 +1,19 @@
 -- What the functions of the job promise, by its definitions.
-use Rattle.std.specs.Prelude.{◌≡◌, ℕ, ◌≤◌, List, [], length}
+use Rattle.std.specs.Prelude.{Result, Ok, Err, ◌≡◌, ℕ, ◌≤◌, List, [], length}
 use Rattle.std.proofs.Math.Option.{Option, none, some}
 use Rattle.rules.specs.Sizes.{max_nesting, max_room}
 use Rattle.rules.specs.Bytes.{Text}
 use Rattle.theory.specs.LookUps.{WholeAt}
 use Rattle.rules_profile.specs.Profile as profile
-use Rattle.job_profile.specs.declared.ProfileRead.{ProfileRead}
+use Rattle.text_chars.specs.declared.Refusal.{Refusal}
+use Rattle.job_profile.specs.declared.Limits.{Limits}
+
+-- what a table's profile comes to: its limits, or a refusal
+abbrev pub ProfileRead : Type 0
+ProfileRead = Result Limits Refusal
+
+abbrev pub bounds : ℕ → ℕ → ℕ → Limits
+bounds edition minimum maximum = record { edition = edition; minimum = minimum; maximum = maximum }
 
 -- a place where a whole value stands
 pub record ValueAt (table text : List ℕ) (at : ℕ) : Type 0 where
@@ -26,5 +34,5 @@ pub record TextIs (o : Option Text) (r : Text) : Type 0 where
 
 -- the paper's number, edition and limits for each case
 abbrev pub profile_of : ProfileRead → profile.Profile
-profile_of (ProfileRead.Limits edition minimum maximum) = record { number = 0; edition = edition; minimum = minimum; maximum = maximum }
-profile_of (ProfileRead.Refused number) = record { number = number; edition = 0; minimum = 0; maximum = 0 }
+profile_of (Ok v) = record { number = 0; edition = v.edition; minimum = v.minimum; maximum = v.maximum }
+profile_of (Err e) = record { number = e.number; edition = 0; minimum = 0; maximum = 0 }

@@ -5,9 +5,8 @@ use native.Mathlib.Omega.{arith}
 use Rattle.answers.specs.Ask.{mem}
 use Rattle.answers.specs.Theory.Sound.{clash, All, mem-cases}
 use Rattle.rules_profile.specs.Profile.{profile_numbers, Profile, no_profile, profile_job}
-use Rattle.job_profile.specs.Clauses.{profile_of}
+use Rattle.job_profile.specs.Clauses.{ProfileRead, profile_of}
 use Rattle.job_profile.specs.Promises.{Told, first-told, second-told, refused-told, profile-told, profile-bounded}
-use Rattle.job_profile.specs.declared.ProfileRead.{ProfileRead}
 
 -- Bits 0 to 5: the number. Bits 6 and 7: the edition. Bits 8 to 32: the minimum. Bits 33 to 57: the maximum. The others are 0.
 unfoldable pub packed_profile : Profile → ℕ

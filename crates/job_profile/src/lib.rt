@@ -11,23 +11,16 @@ ghost use Rattle.job_profile.specs.Clauses.{ValueAt, TextKind, TextIs, profile_o
 ghost use Rattle.job_profile.specs.Packed.{Packable, packed_profile};
 
 use codes::{kinds, limits, profiles, refusals};
-use sheet_records::kinds::{End, pair_at};
-use text_chars::{RecAt, TextLen, record_byte};
+use sheet_records::kinds::pair_at;
+use text_chars::{DocAt, RecAt, Refusal, TextLen, record_byte};
 use text_profiles::{Edition, Length, bare_length, written_length};
 
-/// What a table's profile comes to.
+/// A table's profile: its edition, and both limits in ten-thousandths of a millimetre.
 #[derive(Clone, Copy)]
-pub enum ProfileRead {
-    /// Its edition, and both limits in ten-thousandths of a millimetre.
-    Limits {
-        edition: u8,
-        minimum: u32,
-        maximum: u32,
-    },
-    /// A refusal's number; its place is 0.
-    Refused {
-        number: u8,
-    },
+pub struct Limits {
+    pub edition: u8,
+    pub minimum: u32,
+    pub maximum: u32,
 }
 
 // The kinds of records that refer to a text are a number and a string.
@@ -42,8 +35,8 @@ fn member_text<'a>(table: &[u8], text: &'a [u8], key: &[u8], kind: u32, at: RecA
         (member_at table.now text.now key.now at.0)) result.now }
 {
     match sheet_records::member(table, text, key, at) {
-        End::Nowhere => &text[0..0],
-        End::At(value) => {
+        None => &text[0..0],
+        Some(value) => {
             let p = value.0;
             if record_byte(table, value) == kind {
                 let from = pair_at(table, RecAt(p + 1));
@@ -61,48 +54,52 @@ fn plate_text<'a>(table: &[u8], text: &'a [u8], key: &[u8], kind: u32) -> &'a [u
     ensures { TextIs (text_named table.now text.now kind (plate ∷ key.now ∷ [])) result.now }
 {
     match sheet_records::member(table, text, b"plate", RecAt(0)) {
-        End::Nowhere => &text[0..0],
-        End::At(place) => member_text(table, text, key, kind, place),
+        None => &text[0..0],
+        Some(place) => member_text(table, text, key, kind, place),
     }
 }
 
 // Both limits of an edition, of which each may be missing.
-fn limits_of(edition: u8, low: Length, high: Length) -> ProfileRead
+fn limits_of(edition: u8, low: Length, high: Length) -> Result<Limits, Refusal>
     ensures { profile_of result ≡ limits_of edition (length_as low) (length_as high) }
 {
     match low {
-        Length::Missing => ProfileRead::Refused {
+        Length::Missing => Err(Refusal {
             number: refusals::BAD_MINIMUM,
-        },
+            place: DocAt(0),
+        }),
         Length::TenThousandths(minimum) => match high {
-            Length::Missing => ProfileRead::Refused {
+            Length::Missing => Err(Refusal {
                 number: refusals::BAD_MAXIMUM,
-            },
+                place: DocAt(0),
+            }),
             Length::TenThousandths(maximum) => {
                 if maximum < minimum {
-                    return ProfileRead::Refused {
+                    return Err(Refusal {
                         number: refusals::MINIMUM_ABOVE_MAXIMUM,
-                    };
+                        place: DocAt(0),
+                    });
                 }
-                ProfileRead::Limits {
+                Ok(Limits {
                     edition,
                     minimum,
                     maximum,
-                }
+                })
             }
         },
     }
 }
 
 // Edition 1: bare lengths, by `unit`.
-fn first_edition(table: &[u8], text: &[u8]) -> ProfileRead
+fn first_edition(table: &[u8], text: &[u8]) -> Result<Limits, Refusal>
     requires { WholeTable table.now text.now }
     ensures { profile_of result ≡ first_edition table.now text.now }
 {
     match text_profiles::step_of(member_text(table, text, b"unit", STRING, RecAt(0))) {
-        Length::Missing => ProfileRead::Refused {
+        Length::Missing => Err(Refusal {
             number: refusals::BAD_UNIT,
-        },
+            place: DocAt(0),
+        }),
         Length::TenThousandths(step) => {
             let low = bare_length(plate_text(table, text, b"min", NUMBER), step);
             let high = bare_length(plate_text(table, text, b"max", NUMBER), step);
@@ -112,15 +109,16 @@ fn first_edition(table: &[u8], text: &[u8]) -> ProfileRead
 }
 
 // Edition 2: no `unit`, and lengths with their own.
-fn second_edition(table: &[u8], text: &[u8]) -> ProfileRead
+fn second_edition(table: &[u8], text: &[u8]) -> Result<Limits, Refusal>
     requires { WholeTable table.now text.now }
     ensures { profile_of result ≡ second_edition table.now text.now }
 {
     match sheet_records::member(table, text, b"unit", RecAt(0)) {
-        End::At(place) => ProfileRead::Refused {
+        Some(_) => Err(Refusal {
             number: refusals::BAD_UNIT,
-        },
-        End::Nowhere => {
+            place: DocAt(0),
+        }),
+        None => {
             let low = written_length(plate_text(table, text, b"min", STRING));
             let high = written_length(plate_text(table, text, b"max", STRING));
             limits_of(profiles::SECOND, low, high)
@@ -129,31 +127,35 @@ fn second_edition(table: &[u8], text: &[u8]) -> ProfileRead
 }
 
 /// The profile of a table: what the rules of the job give, for any bytes.
-pub fn profile(table: &[u8], text: &[u8]) -> ProfileRead
+pub fn profile(table: &[u8], text: &[u8]) -> Result<Limits, Refusal>
     ensures { profile_of result ≡ profile_job table.now text.now }
 {
     if limits::ROOM < table.len() {
-        return ProfileRead::Refused {
+        return Err(Refusal {
             number: refusals::BAD_INPUT,
-        };
+            place: DocAt(0),
+        });
     }
     if limits::ROOM < text.len() {
-        return ProfileRead::Refused {
+        return Err(Refusal {
             number: refusals::BAD_INPUT,
-        };
+            place: DocAt(0),
+        });
     }
     if sheet_records::is_whole(table, TextLen(text.len())) {
         match text_profiles::edition_of(member_text(table, text, b"profile", NUMBER, RecAt(0))) {
             Edition::First => first_edition(table, text),
             Edition::Second => second_edition(table, text),
-            Edition::Unnamed => ProfileRead::Refused {
+            Edition::Unnamed => Err(Refusal {
                 number: refusals::BAD_PROFILE,
-            },
+                place: DocAt(0),
+            }),
         }
     } else {
-        ProfileRead::Refused {
+        Err(Refusal {
             number: refusals::NOT_A_TABLE,
-        }
+            place: DocAt(0),
+        })
     }
 }
 
@@ -165,16 +167,14 @@ const MINIMUM: u64 = 256;
 const MAXIMUM: u64 = 256 * 33554432;
 
 /// A profile's or a refusal's 64 bits.
-pub fn pack_profile(read: ProfileRead) -> u64
+pub fn pack_profile(read: Result<Limits, Refusal>) -> u64
     requires { Packable read }
     ensures { result ≡ packed_profile (profile_of read) }
 {
     match read {
-        ProfileRead::Limits {
-            edition,
-            minimum,
-            maximum,
-        } => edition as u64 * EDITION + minimum as u64 * MINIMUM + maximum as u64 * MAXIMUM,
-        ProfileRead::Refused { number } => number as u64,
+        Ok(limits) => limits.edition as u64 * EDITION
+            + limits.minimum as u64 * MINIMUM
+            + limits.maximum as u64 * MAXIMUM,
+        Err(refusal) => refusal.number as u64,
     }
 }

@@ -54,9 +54,9 @@ pub fn put_fields(
     ensures { PutIs marks.now table.old table.new
         count size base.0 kind text.0 textlen.0 }
 {
-    let mut j = 0;
+    let last = count - 1;
     let mut from = TextAt(0);
-    while j + 1 < count {
+    for j in 0..last {
         put_key(
             table,
             marks,
@@ -69,7 +69,6 @@ pub fn put_fields(
             TextLen(0),
         );
         from = text_elements::marks::end_at(marks, j);
-        j += 1;
     }
-    put_key(table, marks, j, from, size, base, kind, text, textlen);
+    put_key(table, marks, last, from, size, base, kind, text, textlen);
 }

@@ -105,10 +105,8 @@ fn lay_run(room: &[u8], len: RecLen, at: RecAt, part: &mut [u8]) -> RecAt
 {
     let end = run_end(room, at, RecAt(len.0));
     let last = end.0;
-    let mut i = at.0;
-    while i < last {
+    for i in at.0..last {
         part[i] = room[i];
-        i += 1;
     }
     end
 }

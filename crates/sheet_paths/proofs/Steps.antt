@@ -1,4 +1,5 @@
 -- One law for each answer of the functions that walk along a path.
+use Rattle.std.specs.Prelude.{Some, None, Ok, Err}
 use mathlib.Core.Path.{◌≡◌, refl, sym, ◌∙◌, ap}
 use mathlib.Core.List.{List, [], ◌∷◌}
 use mathlib.Core.Option.{Option, none, some}
@@ -15,41 +16,40 @@ use Rattle.rules.specs.LookUp.{after_value, member_at, value_named}
 use Rattle.rules.specs.Jobs.{not_found, found_at}
 use Rattle.theory.specs.LookUpSteps.{named-nil, named_none, named-next}
 use Rattle.text_chars.specs.Parts.{part_slice}
-use Rattle.text_chars.specs.Cursor.{doc}
+use Rattle.text_chars.specs.Cursor.{doc, refusal}
 use Rattle.text_chars.specs.declared.RecAt.{RecAt}
 use Rattle.text_chars.specs.declared.TextAt.{TextAt}
-use Rattle.sheet_records.specs.Kinds.Contracts.{near_room, rec, rec_len, end_at, Between, EndIs}
+use Rattle.sheet_records.specs.Kinds.Contracts.{End, near_room, rec, rec_len, end_at, Between, EndIs}
 use Rattle.sheet_records.specs.Kinds.Ends.{some_is, none_is, between_is}
-use Rattle.sheet_records.specs.declared.kinds.End.{End}
 use Rattle.text_elements.specs.Marks.Holding.{Held}
 use Rattle.text_elements.specs.Marks.Marks.{end_of}
 use Rattle.sheet_paths.specs.Clauses.{Near, Inside, NextIs, ValueNamedIs, PartIs, PartNamedIs}
-use Rattle.sheet_paths.specs.declared.Found.{Found}
+use Rattle.sheet_paths.specs.Answers.{Found, part}
 
 -- an end, back as the rules have it
-some_end : (o : Option ℕ) (p : RecAt) → End.At p ≡ end_at o → o ≡ some p.0
+some_end : (o : Option ℕ) (p : RecAt) → Some p ≡ end_at o → o ≡ some p.0
 some_end none p z = clash (cc)
 some_end (some q) p z = let i : p ≡ rec q = cc in ap (λ (x : RecAt). some x.0) (sym i)
 
-none_end : (o : Option ℕ) → End.Nowhere ≡ end_at o → o ≡ none
+none_end : (o : Option ℕ) → None ≡ end_at o → o ≡ none
 none_end none z = refl
 none_end (some q) z = clash (cc)
 
 -- ---- one element
 
 near-end : (n at : ℕ) (r : End) → Between (at + 1) (n + 7) r → n ≤ max_room → Near r
-near-end n at (End.At p) b l = omega (arith, b.1)
-near-end n at End.Nowhere b l = tt
+near-end n at (Some p) b l = omega (arith, b.1)
+near-end n at None b l = tt
 
 inside-end : (end n : ℕ) (r : End) → end ≤ n → Inside end n r
-inside-end end n (End.At p) h = h
-inside-end end n End.Nowhere h = tt
+inside-end end n (Some p) h = h
+inside-end end n None h = tt
 
 module _ {table text names : List ℕ} {from end at : ℕ} where
-  pub next-backward : end < from → NextIs table text names from end at End.Nowhere
+  pub next-backward : end < from → NextIs table text names from end at None
   next-backward l = record { is = λ h k. absurd (omega arith); near = tt; inside = tt }
 
-  pub next-outside : length names < end → NextIs table text names from end at End.Nowhere
+  pub next-outside : length names < end → NextIs table text names from end at None
   next-outside l = record { is = λ h k. absurd (omega arith); near = tt; inside = tt }
 
   pub next-member : {r : End} → EndIs (member_at table text (take (end - from) (drop from names)) at) (at + 1) (length table + 7) r
@@ -113,7 +113,7 @@ module _ {table text names marks : List ℕ} {count at from i : ℕ} (w : Walkin
         let m = marked names marks from i e rest' x (omega arith) w.inside in
         (e, rest', refl, k.is m.forward m.within ∙ ap (λ t. end_at (member_at table text t at)) m.is, m, x.2)
 
-  nowhere : r ≡ End.Nowhere → ValueNamedIs table text names marks count End.Nowhere
+  nowhere : r ≡ None → ValueNamedIs table text names marks count None
   nowhere z = record {
     is = λ es h n.
         let L = w.left es h n in
@@ -125,7 +125,7 @@ module _ {table text names marks : List ℕ} {count at from i : ℕ} (w : Walkin
     near = tt;
   }
 
-  more : {p : RecAt} → r ≡ End.At p → Walking table text names marks count p.0 (get_or marks (2 * i) 0) (i + 1)
+  more : {p : RecAt} → r ≡ Some p → Walking table text names marks count p.0 (get_or marks (2 * i) 0) (i + 1)
   more {p} z = record {
     left = λ es h n.
         let L = w.left es h n in
@@ -149,14 +149,14 @@ module _ {table text names marks : List ℕ} {count at i : ℕ} {from end : Text
   marked_next : NextIs table text names from.0 (get_or marks (2 * i) 0) at r
   marked_next = rw m at k
 
-  pub walk-nowhere : r ≡ End.Nowhere → ValueNamedIs table text names marks count End.Nowhere
-  walk-nowhere z = nowhere w l b marked_next z
+  pub walk-nowhere : {q : End} → r ≡ None → q ≡ None → ValueNamedIs table text names marks count q
+  walk-nowhere z n = rw n (nowhere w l b marked_next z)
 
-  pub walk_more : {p : RecAt} → r ≡ End.At p → Walking table text names marks count p.0 end.0 (i + 1)
+  pub walk_more : {p : RecAt} → r ≡ Some p → Walking table text names marks count p.0 end.0 (i + 1)
   walk_more z = rw m (more w l b marked_next z)
 
 pub walk_end : {table text names marks : List ℕ} {count i : ℕ} {at : RecAt} {from : ℕ} → Walking table text names marks count at.0 from i → count ≤ i
-    → ValueNamedIs table text names marks count (End.At at)
+    → ValueNamedIs table text names marks count (Some at)
 walk_end {table} {text} {names} {marks} {count} {i} {at} w l = record {
   is = λ es h n.
       let L = w.left es h n in
@@ -171,11 +171,11 @@ walk_end {table} {text} {names} {marks} {count} {i} {at} w l = record {
 
 -- ---- the part, and what a path names
 
-pub part-size : {o : Option ℕ} {at high : ℕ} {r : End} {e : RecAt} → EndIs o (at + 1) high r → r ≡ End.At e → at ≤ e.0
+pub part-size : {o : Option ℕ} {at high : ℕ} {r : End} {e : RecAt} → EndIs o (at + 1) high r → r ≡ Some e → at ≤ e.0
 part-size {o} {at} {high} k z = let b = between_is k z in omega (arith, b.0)
 
 module _ {table : List ℕ} {limit : ℕ} {at : RecAt} {r : End} (k : EndIs (after_value max_nesting table limit at.0) (at.0 + 1) (length table) r) where
-  pub part-whole : {e : RecAt} → r ≡ End.At e → PartIs table limit at.0 (Found.Part at (rec_len (e.0 - at.0)))
+  pub part-whole : {e : RecAt} → r ≡ Some e → PartIs table limit at.0 (Ok (part at (rec_len (e.0 - at.0))))
   unfolding found_at
   part-whole {e} z = record {
     is = λ text o l q.
@@ -183,7 +183,7 @@ module _ {table : List ℕ} {limit : ℕ} {at : RecAt} {r : End} (k : EndIs (aft
         rw (q, a, found_at);
   }
 
-  pub part_none : r ≡ End.Nowhere → PartIs table limit at.0 (Found.Refused spent_fuel (doc 0))
+  pub part_none : r ≡ None → PartIs table limit at.0 (Err (refusal spent_fuel (doc 0)))
   unfolding found_at not_found
   part_none z = record {
     is = λ text o l q.
@@ -192,17 +192,17 @@ module _ {table : List ℕ} {limit : ℕ} {at : RecAt} {r : End} (k : EndIs (aft
   }
 
 module _ {table text names marks : List ℕ} {count : ℕ} {r : End} (k : ValueNamedIs table text names marks count r) where
-  pub named-part : {p : RecAt} {f : Found} → r ≡ End.At p → PartIs table (length text) p.0 f → PartNamedIs table text names marks count f
+  pub named-part : {p : RecAt} {f : Found} → r ≡ Some p → PartIs table (length text) p.0 f → PartNamedIs table text names marks count f
   named-part {p} z w = record { is = λ es h n. w.is text (value_named table text (texts_of es) 0) refl (some_end _ p (sym z ∙ k.is es h n)) }
 
-  pub named-nothing : r ≡ End.Nowhere → PartNamedIs table text names marks count (Found.Refused 16 (doc 0))
+  pub named-nothing : r ≡ None → PartNamedIs table text names marks count (Err (refusal 16 (doc 0)))
   unfolding found_at not_found
   named-nothing z = record {
     is = λ es h n. let v : value_named table text (texts_of es) 0 ≡ none = none_end _ (sym z ∙ k.is es h n) in rw (v, found_at);
   }
 
-  pub named-near : {p : RecAt} → r ≡ End.At p → p.0 ≤ near_room
-  named-near {p} z = let n : Near (End.At p) = rw z at k.near in omega arith
+  pub named-near : {p : RecAt} → r ≡ Some p → p.0 ≤ near_room
+  named-near {p} z = let n : Near (Some p) = rw z at k.near in omega arith
 
 pub ruleset nexts = (next-backward, next-outside, next-member)
 

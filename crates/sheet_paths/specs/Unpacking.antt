@@ -1,9 +1,8 @@
 -- What the header's functions take out of 64 bits is what was packed into them.
-use Rattle.std.specs.Prelude.{◌≡◌, cond, ℕ, ◌+◌, ◌*◌, ◌/◌, ◌%◌, ◌≤◌, ◌<◌, eqb}
+use Rattle.std.specs.Prelude.{Ok, Err, ◌≡◌, cond, ℕ, ◌+◌, ◌*◌, ◌/◌, ◌%◌, ◌≤◌, ◌<◌, eqb}
 use Rattle.std.proofs.Common.{sym, ◌∙◌, ap, arith, eq-eqb, ne_eqb}
 use Rattle.rules.specs.Jobs as J
-use Rattle.sheet_paths.specs.Answers.{job_of, packed, Packable}
-use Rattle.sheet_paths.specs.declared.Found.{Found}
+use Rattle.sheet_paths.specs.Answers.{Found, job_of, packed, Packable}
 
 -- ---- the header's functions, with `>> n` as a division and `& mask` as a remainder
 
@@ -31,10 +30,10 @@ pub data Roomy (f : J.Found) : Type 0 where
 
 -- so a refusal is never taken for a part, and has room too
 pub packable : (r : Found) → Roomy (job_of r) → Packable r
-packable (Found.Part start size) (part n p o a b) = record { room = (a, b) }
-packable (Found.Part start size) (refusal n a b s z) = absurd (omega arith)
-packable (Found.Refused number place) (part n p o a b) = absurd (omega arith)
-packable (Found.Refused number place) (refusal n a b s z) = record { room = (n, a, b) }
+packable (Ok v) (part n p o a b) = record { room = (a, b) }
+packable (Ok v) (refusal n a b s z) = absurd (omega arith)
+packable (Err e) (part n p o a b) = absurd (omega arith)
+packable (Err e) (refusal n a b s z) = record { room = (n, a, b) }
 
 -- what stands at each place of the bits
 low_bits : (n p z : ℕ) → n < 64 → (n + p * 64 + z * 4194304) % 64 ≡ n

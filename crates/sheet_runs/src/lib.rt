@@ -36,10 +36,8 @@ fn plain_block(s: &[u8], at: usize, end: usize) -> bool
         return false;
     }
     let mut count: u8 = 0;
-    let mut i = 0;
-    while i < BLOCK {
+    for i in 0..BLOCK {
         count += longer(s[at + i]);
-        i += 1;
     }
     count == 0
 }
@@ -62,8 +60,7 @@ fn singles_end(s: &[u8], at: usize, end: usize) -> usize
     ensures { RunIs s.now at end result }
 {
     let mut p = at;
-    let mut i = 0;
-    while i < SINGLES {
+    for _ in 0..SINGLES {
         if end <= p {
             return p;
         }
@@ -71,7 +68,6 @@ fn singles_end(s: &[u8], at: usize, end: usize) -> usize
             return p;
         }
         p += 1;
-        i += 1;
     }
     p
 }

@@ -9,10 +9,8 @@ fn move_up(s: &mut [u8], from: usize, to: usize, n: usize)
     requires { (from ≤ to) × (to + n ≤ length s.old) }
     ensures { Moved from to n s.old s.new }
 {
-    let mut left = n;
-    while 0 < left {
-        left -= 1;
-        s[to + left] = s[from + left];
+    for j in (0..n).rev() {
+        s[to + j] = s[from + j];
     }
 }
 
@@ -21,10 +19,8 @@ fn move_down(s: &mut [u8], from: usize, to: usize, n: usize)
     requires { (to ≤ from) × (from + n ≤ length s.old) }
     ensures { Moved from to n s.old s.new }
 {
-    let mut i = 0;
-    while i < n {
+    for i in 0..n {
         s[to + i] = s[from + i];
-        i += 1;
     }
 }
 

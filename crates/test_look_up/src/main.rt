@@ -4,40 +4,15 @@
 // byte (of an empty one 0) and its length. A part that is cut off or too long ends the program, and so does a read or a write that fails, with an error.
 #![tactic(auto)]
 
-use sheet_paths::Found;
 use std::io;
-
-fn print_found(
-    rt: &HostRuntime,
-    number: usize,
-    place: usize,
-    start: usize,
-    size: usize,
-) -> io::Result<()> {
-    test_cases::print_number(rt, number)?;
-    test_cases::print_number(rt, place)?;
-    test_cases::print_number(rt, start)?;
-    test_cases::print_number(rt, size)
-}
 
 fn run(rt: &HostRuntime, table: &[u8], text: &[u8], path: &[u8]) -> io::Result<()> {
     match job_look_up::look_up_answer(table, text, path) {
-        Found::Part { start, size } => print_found(rt, 0, 0, start.0, size.0)?,
-        Found::Refused { number, place } => print_found(
-            rt,
-            test_cases::wide(number),
-            place.0,
-            0,
-            0,
-        )?,
+        Ok(part) => print!(rt; "0 0 {} {} ", part.start.0, part.size.0)?,
+        Err(refusal) => print!(rt; "{} {} 0 0 ", refusal.number, refusal.place.0)?,
     }
     let part = job_look_up::look_up(table, text, path);
-    if 0 < part.len() {
-        test_cases::print_number(rt, test_cases::wide(part[0]))?;
-    } else {
-        test_cases::print_number(rt, 0)?;
-    }
-    test_cases::print_last(rt, part.len())
+    println!(rt; "{} {}", part.first().copied().unwrap_or(0), part.len())
 }
 
 // Runs the next look-up, and answers whether there was one.
@@ -45,14 +20,13 @@ fn run_next(rt: &HostRuntime) -> io::Result<bool> {
     let table = test_cases::next_part(rt, true)?;
     let text = test_cases::next_part(rt, table.there)?;
     let path = test_cases::next_part(rt, text.there)?;
-    let a = table.bytes;
-    let b = text.bytes;
-    let c = path.bytes;
-    let n = table.size;
-    let m = text.size;
-    let k = path.size;
     if path.there {
-        run(rt, &a[..n], &b[..m], &c[..k])?;
+        run(
+            rt,
+            &table.bytes[..table.size],
+            &text.bytes[..text.size],
+            &path.bytes[..path.size],
+        )?;
     }
     Ok(path.there)
 }

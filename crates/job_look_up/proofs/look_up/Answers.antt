@@ -8,8 +8,8 @@ overflow_add-e c = search part-fits
 pub slice_bounds-result-end : goal.slice_bounds-result-end
 slice_bounds-result-end c = search (rules, part-inside)
 
-pub returns-in-Part : goal.returns-in-Part
-returns-in-Part c = search handed
+pub returns-in-Ok : goal.returns-in-Ok
+returns-in-Ok c = search handed
 
-pub returns-in-Refused : goal.returns-in-Refused
-returns-in-Refused c = search handed
+pub returns-in-Err : goal.returns-in-Err
+returns-in-Err c = search handed

@@ -23,8 +23,8 @@ slice_bounds-result-end-then-record_byte-kind c = search text-places
 pub returns-then-record_byte-kind : goal.returns-then-record_byte-kind
 returns-then-record_byte-kind c = search texts
 
-pub returns-in-Nowhere : goal.returns-in-Nowhere
-returns-in-Nowhere c = search texts
+pub returns-in-None : goal.returns-in-None
+returns-in-None c = search texts
 
 pub returns-else-record_byte-kind : goal.returns-else-record_byte-kind
 returns-else-record_byte-kind c = search texts

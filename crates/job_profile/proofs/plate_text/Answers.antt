@@ -5,8 +5,8 @@ use Rattle.job_profile.proofs.plate_text.Goals as goal
 pub member_text-requires : goal.member_text-requires
 member_text-requires c = search (rules, plate-values)
 
-pub returns-in-Nowhere : goal.returns-in-Nowhere
-returns-in-Nowhere c = search plates
+pub returns-in-None : goal.returns-in-None
+returns-in-None c = search plates
 
-pub returns-in-At : goal.returns-in-At
-returns-in-At c = search plates
+pub returns-in-Some : goal.returns-in-Some
+returns-in-Some c = search plates

@@ -128,11 +128,13 @@ module _ {marks before table : List ℕ} {count size base kind text textlen j fr
         textlen-fits = w;
       }
 
-  pub upper-asked : j + 1 < count → KeyAsked marks table j from size base 7 0 0
+  pub upper-asked : j < count - 1 → KeyAsked marks table j from size base 7 0 0
   upper-asked l = any-asked 7 0 0 (omega arith) (omega arith) (omega arith)
 
-  pub last-asked : count ≤ j + 1 → KeyAsked marks table j from size base kind text textlen
-  last-asked l = any-asked kind text textlen p.asked.kind_fits p.asked.text-fits p.asked.textlen-fits
+  pub last-asked : count - 1 ≤ j → KeyAsked marks table (count - 1) from size base kind text textlen
+  last-asked l =
+      let q : count - 1 ≡ j = omega (arith, p.inside) in
+      rw q (any-asked kind text textlen p.asked.kind_fits p.asked.text-fits p.asked.textlen-fits)
 
   pub in-marks : 2 * j + 1 < length marks
   in-marks = omega (arith, p.asked.marks-room, p.asked.few, p.inside)
@@ -141,12 +143,12 @@ module _ {marks before table : List ℕ} {count size base kind text textlen j fr
     written : {k o z : ℕ} → KeyIs marks table table' j from size base k o z → KeyItem marks table' j (from_of marks j) size base k o z
     written w = rw (sym p.begins) w.item
 
-    pub put-more : {end : TextAt} → j + 1 < count → KeyIs marks table table' j from size base 7 0 0 → end.0 ≡ end_of marks j
+    pub put-more : {end : TextAt} → j < count - 1 → KeyIs marks table table' j from size base 7 0 0 → end.0 ≡ end_of marks j
         → Putting marks before table' count size base kind text textlen (j + 1) end.0
     put-more l w e = record {
       asked = p.asked;
       begins = rw (add-one j) e;
-      inside = l;
+      inside = omega arith;
       upper = λ i u. go i u (ltb i j) refl;
       above = λ k u. w.above k (omega arith) ∙ p.above k (omega arith);
       kept = w.kept ∙ p.kept;
@@ -156,9 +158,9 @@ module _ {marks before table : List ℕ} {count size base kind text textlen j fr
         go i u true t = kept-item w (ltb-true i j t) (p.upper i (ltb-true i j t))
         go i u false t = let v : j ≤ i = ltb-false i j t in let q : i ≡ j = omega arith in rw q (written w)
 
-    pub put-done : count ≤ j + 1 → KeyIs marks table table' j from size base kind text textlen
+    pub put-done : count - 1 ≤ j → KeyIs marks table table' (count - 1) from size base kind text textlen
         → PutIs marks before table' count size base kind text textlen
-    put-done l w = record {
+    put-done l v = let e : count - 1 ≡ j = omega (arith, p.inside) in let w = rw e at v in record {
       upper = λ i u. kept-item w (omega (arith, p.inside)) (p.upper i (omega (arith, p.inside)));
       last = λ i u. let q : i ≡ j = omega (arith, p.inside) in rw q (written w);
       above = λ k u. w.above k (omega (arith, p.inside)) ∙ p.above k (omega (arith, p.inside));
