@@ -1,4 +1,5 @@
 -- One law for each answer of the functions that read a simple value.
+use Rattle.std.specs.Prelude.{Result, Ok, Err}
 use mathlib.Core.Path.{◌≡◌, refl, sym, ◌∙◌, ap}
 use mathlib.Core.Bool.{Bool, true, false, ◌||◌}
 use mathlib.Core.List.{List, ◌++◌}
@@ -15,7 +16,7 @@ use Rattle.rules.specs.Refusals.{Refusal, number_of, place_of, Scan, ok, refused
 use Rattle.rules.specs.Tree.{Scalar, null, boolean, number, string}
 use Rattle.rules.specs.Pieces.{Token, token, starts_with, word_true, word_false, word_null, unquoted_at, number_at, simple_at, scalar_text}
 use Rattle.theory_text.specs.Choices.{by-test, by-option}
-use Rattle.text_chars.specs.Cursor.{doc, cur}
+use Rattle.text_chars.specs.Cursor.{doc, cur, refusal}
 use Rattle.text_chars.specs.declared.DocAt.{DocAt}
 use Rattle.text_chars.specs.declared.TextLen.{TextLen}
 use Rattle.text_chars.specs.declared.Cursor.{Cursor}
@@ -28,12 +29,15 @@ use Rattle.read_scalars.specs.declared.ScalarRead.{ScalarRead}
 
 -- ---- a copy
 
+abbrev written : ℕ → Cursor → ℕ → ScalarRead
+written kind c n = record { kind = kind; next = c; size = record { 0 = n } }
+
 pub written_is : {s : List ℕ} {at kind : ℕ} {c : Cursor} {before after : List ℕ} {n : ℕ} → WrittenAsked s at c.at.0 before
-    → WriteIs (slice at c.at.0 s) before after n → WrittenIs s at kind c before after (ScalarRead.Done kind c (record { 0 = n }))
+    → WriteIs (slice at c.at.0 s) before after n → WrittenIs s at kind c before after (record { kind = kind; next = c; size = record { 0 = n } })
 written_is {s} {at} {kind} {c} {before} {after} {n} a k =
     let e : n ≡ c.at.0 - at = k.is ∙ length-slice at c.at.0 s a.inside in
     record {
-      is = ap (λ m. ScalarRead.Done kind c (record { 0 = m })) e;
+      is = ap (written kind c) e;
       wrote = rw k.bytes (take_at (slice at c.at.0 s) (drop (length (slice at c.at.0 s)) before) (c.at.0 - at) (length-slice at c.at.0 s a.inside));
       kept = k.kept;
     }
@@ -126,7 +130,7 @@ stringed s at =
 -- ---- the answers
 
 module _ {s : List ℕ} {at : ℕ} {before mid : List ℕ} {r : Piece} (a : PieceAsked s at before) (k : PieceIs (simple_at s at) s at before mid r) where
-  pub scalar-refused : {n : ℕ} {d : DocAt} → r ≡ Piece.Refused n d → ScalarIs s at before mid (ScalarRead.Refused n d)
+  pub scalar-refused : {n : ℕ} {d : DocAt} → r ≡ Piece.Refused n d → ScalarIs s at before mid (Err (refusal n d))
   scalar-refused {n} {d} e = record { is = refused-inv (simple_at s at) n d (sym e ∙ k.is); kept = k.kept }
 
   laid-quoted : (t : Token) (end : ℕ) → simple_at s at ≡ ok t end → t.in_quotes ≡ true
@@ -138,7 +142,7 @@ module _ {s : List ℕ} {at : ℕ} {before mid : List ℕ} {r : Piece} (a : Piec
       go true z h = h
       go false z h = clash (cc)
 
-  pub scalar-quoted : {c : Cursor} {u : TextLen} → r ≡ Piece.Quoted c u → ScalarIs s at before mid (ScalarRead.Done 5 c u)
+  pub scalar-quoted : {c : Cursor} {u : TextLen} → r ≡ Piece.Quoted c u → ScalarIs s at before mid (Ok (record { kind = 5; next = c; size = u }))
   scalar-quoted {c} {u} e =
       let m : Moved (length s) at (Piece.Quoted c u) = rw e at k.moved in
       let (t, i, f, l) = quoted-inv (simple_at s at) c u (sym e ∙ k.is) in
@@ -160,20 +164,20 @@ module _ {s : List ℕ} {at : ℕ} {before mid : List ℕ} {r : Piece} (a : Piec
 
   -- a piece as written
   as_written : (c : Cursor) (kind : ℕ) → Bare r c kind → at < c.at.0 → c.at.0 ≤ length s
-      → {after : List ℕ} {v : ScalarRead} → WrittenIs s at kind c mid after v → ScalarIs s at before after v
+      → {after : List ℕ} {v : ScalarRead} → WrittenIs s at kind c mid after v → ScalarIs s at before after (Ok v)
   as_written c kind b m n {after} {v} w =
       let (t, i, f, j) = bare-inv (simple_at s at) r c kind k.is b in
       let z : scalar_text t.scalar ≡ slice at c.at.0 s = rw i at k.spelt f in
       let l : length (scalar_text t.scalar) ≡ c.at.0 - at = ap length z ∙ length-slice at c.at.0 s n in
       rw w.is (record { is = (t, i, j, sym l, w.wrote ∙ sym z, m, n, omega arith); kept = w.kept ∙ k.kept })
 
-  pub scalar-unquoted : {c : Cursor} {after : List ℕ} {v : ScalarRead} → r ≡ Piece.Unquoted c → WrittenIs s at 5 c mid after v → ScalarIs s at before after v
+  pub scalar-unquoted : {c : Cursor} {after : List ℕ} {v : ScalarRead} → r ≡ Piece.Unquoted c → WrittenIs s at 5 c mid after v → ScalarIs s at before after (Ok v)
   scalar-unquoted {c} e w =
       let m : Moved (length s) at (Piece.Unquoted c) = rw e at k.moved in
       as_written c 5 (rw e (refl, refl)) m.0 m.1 w
 
   pub scalar-plain : {kind : ℕ} {c : Cursor} {after : List ℕ} {v : ScalarRead} → r ≡ Piece.Plain kind c → WrittenIs s at kind c mid after v
-      → ScalarIs s at before after v
+      → ScalarIs s at before after (Ok v)
   scalar-plain {kind} {c} e w =
       let m : Moved (length s) at (Piece.Plain kind c) = rw e at k.moved in
       as_written c kind (rw e (refl, refl)) m.0 m.1 w
