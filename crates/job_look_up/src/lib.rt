@@ -11,7 +11,6 @@ ghost use Rattle.sheet_paths.specs.Answers.{job_of, part_of};
 use codes::{limits, refusals};
 use sheet_paths::Found;
 use text_chars::{DocAt, TextLen};
-use text_paths::PathRead;
 
 // What the path of a path text names. It is read into buffers of this function's own.
 fn look_up_path(table: &[u8], text: &[u8], path: &[u8]) -> Found
@@ -21,10 +20,11 @@ fn look_up_path(table: &[u8], text: &[u8], path: &[u8]) -> Found
     let mut names = [0u8; limits::PATH_TEXT];
     let mut marks = [0usize; limits::MARKS];
     match text_paths::path_text(path, &mut names, &mut marks) {
-        PathRead::Elements { count } => {
-            sheet_paths::part_named(table, text, &names, &marks, count)
-        }
-        PathRead::Refused { number, place } => Found::Refused { number, place },
+        Ok(count) => sheet_paths::part_named(table, text, &names, &marks, count),
+        Err(e) => Found::Refused {
+            number: e.number,
+            place: e.place,
+        },
     }
 }
 

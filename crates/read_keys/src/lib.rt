@@ -7,7 +7,6 @@ ghost use Rattle.read_keys.specs.Keys.{JudgeKeyAsked, JudgeKeyIs, PathAsked, Pat
 use codes::refusals;
 use read_grammar::Place;
 use text_chars::{Cursor, DocAt};
-use text_elements::marks::Verdict;
 use text_paths::Joined;
 
 /// A key that was read and what parts it from its value. The elements' texts stand at the start of the buffer one behind the other, and the
@@ -34,8 +33,11 @@ fn judge_key(
     ensures { JudgeKeyIs s.now end.at.0 count empty first.0 allowed marks.now result }
 {
     match text_elements::marks::judge_elements(count, empty, first, allowed, marks) {
-        Verdict::Refused { number, place } => KeyRead::Refused { number, place },
-        Verdict::Fine => match read_grammar::value_place(s, end) {
+        Err(e) => KeyRead::Refused {
+            number: e.number,
+            place: e.place,
+        },
+        Ok(()) => match read_grammar::value_place(s, end) {
             Place::Refused { number, place } => KeyRead::Refused { number, place },
             Place::At(next) => KeyRead::Done { count, next },
         },
@@ -50,8 +52,11 @@ fn key_path(s: &[u8], c: Cursor, allowed: usize, text: &mut [u8], marks: &mut [u
 {
     let first = c.at;
     match text_paths::elements(s, c, true, text, marks) {
-        Joined::Refused { number, place } => KeyRead::Refused { number, place },
-        Joined::Elements { count, empty, next } => {
+        Err(e) => KeyRead::Refused {
+            number: e.number,
+            place: e.place,
+        },
+        Ok(Joined { count, empty, next }) => {
             if count == 0 {
                 let place = next.at;
                 return KeyRead::Refused {

@@ -11,7 +11,6 @@ ghost use Rattle.read_references.specs.ReferencePieces.{ReferencePieceAsked, Ref
 use codes::{bytes, limits};
 use read_values::pieces::{PieceItem, PieceRead};
 use text_chars::{Cursor, DocAt, TextAt, TextLen};
-use text_elements::marks::Verdict;
 use text_paths::Joined;
 
 // A substitution that was read. The texts of its path's elements stand at the start of the buffer one behind the other, and behind them
@@ -87,8 +86,11 @@ fn close_reference(
     if ch == bytes::CLOSE_BRACE {
         let after = here.next;
         return match text_elements::marks::judge_path(count, empty, dollar, marks) {
-            Verdict::Fine => Brace::Past(after),
-            Verdict::Refused { number, place } => Brace::Refused { number, place },
+            Ok(()) => Brace::Past(after),
+            Err(e) => Brace::Refused {
+                number: e.number,
+                place: e.place,
+            },
         };
     }
     let place = end.at;
@@ -118,8 +120,11 @@ fn path_between(
     ensures { BetweenIs s.now start.at.0 dollar.0 text.old text.new marks.new result }
 {
     match text_paths::elements(s, start, false, text, marks) {
-        Joined::Refused { number, place } => Between::Refused { number, place },
-        Joined::Elements { count, empty, next } => {
+        Err(e) => Between::Refused {
+            number: e.number,
+            place: e.place,
+        },
+        Ok(Joined { count, empty, next }) => {
             match close_reference(s, next, count, empty, dollar, marks) {
                 Brace::Refused { number, place } => Between::Refused { number, place },
                 Brace::Past(after) => Between::Done { count, next: after },

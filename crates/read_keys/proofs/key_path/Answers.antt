@@ -7,8 +7,8 @@ returns-then-count-eq0 c = search key-paths
 pub judge_key-requires : goal.judge_key-requires
 judge_key-requires c = search asks-judged
 
-pub returns-in-Refused : goal.returns-in-Refused
-returns-in-Refused c = search key-paths
+pub returns-in-Err : goal.returns-in-Err
+returns-in-Err c = search key-paths
 
 pub returns-else-count-eq0 : goal.returns-else-count-eq0
 returns-else-count-eq0 c = search key-paths
