@@ -20,11 +20,10 @@ use Rattle.theory.specs.LookUpSteps.{look-up-long, look-up-not-whole, look-up-il
 use Rattle.theory.specs.LookUps.{look-up-part}
 use Rattle.text_chars.specs.Cursor.{doc, refusal, ill_at}
 use Rattle.text_chars.specs.declared.DocAt.{DocAt}
-use Rattle.std.specs.Prelude.{Some, None, Option as Maybe}
+use Rattle.std.specs.Prelude.{Some, None, Option as Maybe, Result}
 use Rattle.text_chars.specs.declared.Refusal.{Refusal}
 use Rattle.text_elements.specs.Marks.Holding.{Held}
 use Rattle.text_paths.specs.Texts.{PathIs, HeldTexts, read_of}
-use Rattle.text_paths.specs.declared.PathRead.{PathRead}
 use Rattle.sheet_paths.specs.Clauses.{PartNamedIs}
 use Rattle.sheet_paths.specs.Answers.{Found, job_of, part_of}
 use Rattle.sheet_paths.specs.declared.Part.{Part}
@@ -36,10 +35,10 @@ texts-count : (es : List Element) → length (texts_of es) ≡ length es
 texts-count [] = refl
 texts-count (e ∷ es) = ap suc (texts-count es)
 
-module _ {path names marks : List ℕ} {r : PathRead} (k : PathIs path names marks r) where
-  module _ {count : ℕ} (z : r ≡ PathRead.Elements count) where
+module _ {path names marks : List ℕ} {r : Result ℕ Refusal} (k : PathIs path names marks r) where
+  module _ {count : ℕ} (z : r ≡ Ok count) where
     -- the path was read, into so many elements
-    counted : (x : Scan (List Text)) → path_text path ≡ x → PathRead.Elements count ≡ read_of x → HeldTexts x names marks
+    counted : (x : Scan (List Text)) → path_text path ≡ x → Ok count ≡ read_of x → HeldTexts x names marks
         → (es : List Element) × (end : ℕ) × (path_text path ≡ ok (texts_of es) end) × (length es ≡ count) × (length es ≤ max_path) × Held 0 0 es names marks
     counted (ok ts end) e f (es, g, l, h) =
         let c : count ≡ length ts = cc in
@@ -58,17 +57,16 @@ module _ {path names marks : List ℕ} {r : PathRead} (k : PathIs path names mar
         let (es, end, e, c, l, h) = good in
         w.is es h c ∙ ap (λ (x : Scan (List Text)). J.looked_up table text x) (sym e)
 
-  module _ {number : ℕ} {place : DocAt} (z : r ≡ PathRead.Refused number place) where
-    bad : (table text : List ℕ) (x : Scan (List Text)) → path_text path ≡ x → PathRead.Refused number place ≡ read_of x
-        → job_of (Err (refusal number place)) ≡ J.looked_up table text x
+  module _ {y : Refusal} (z : r ≡ Err y) where
+    bad : (table text : List ℕ) (x : Scan (List Text)) → path_text path ≡ x → Err y ≡ read_of x
+        → job_of (Err y) ≡ J.looked_up table text x
     unfolding J.looked_up J.not_found
     bad table text (ok ts end) e f = clash (cc)
     bad table text (refused x) e f =
-        let n : number ≡ number_of x = cc in
-        let p : place ≡ doc (place_of x) = cc in
-        rw (n, p)
+        let i : y ≡ refusal (number_of x) (doc (place_of x)) = cc in
+        rw i
 
-    pub path-refused : (table text : List ℕ) → job_of (Err (refusal number place)) ≡ J.looked_up table text (path_text path)
+    pub path-refused : (table text : List ℕ) → job_of (Err y) ≡ J.looked_up table text (path_text path)
     path-refused table text = bad table text (path_text path) refl (sym z ∙ k.is)
 
 -- ---- the job

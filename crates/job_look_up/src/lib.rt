@@ -11,7 +11,6 @@ ghost use Rattle.sheet_paths.specs.Answers.{job_of, part_of};
 use codes::{limits, refusals};
 use sheet_paths::Part;
 use text_chars::{DocAt, Refusal, TextLen};
-use text_paths::PathRead;
 
 // What the path of a path text names. It is read into buffers of this function's own.
 fn look_up_path(table: &[u8], text: &[u8], path: &[u8]) -> Result<Part, Refusal>
@@ -20,12 +19,8 @@ fn look_up_path(table: &[u8], text: &[u8], path: &[u8]) -> Result<Part, Refusal>
 {
     let mut names = [0u8; limits::PATH_TEXT];
     let mut marks = [0usize; limits::MARKS];
-    match text_paths::path_text(path, &mut names, &mut marks) {
-        PathRead::Elements { count } => {
-            sheet_paths::part_named(table, text, &names, &marks, count)
-        }
-        PathRead::Refused { number, place } => Err(Refusal { number, place }),
-    }
+    let count = text_paths::path_text(path, &mut names, &mut marks)?;
+    sheet_paths::part_named(table, text, &names, &marks, count)
 }
 
 /// Looks a path up in a table: what the rules of the job give, for any bytes.

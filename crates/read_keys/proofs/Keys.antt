@@ -29,7 +29,6 @@ use Rattle.text_elements.specs.Marks.Judging.{JudgeIs}
 use Rattle.text_elements.specs.Marks.Verdicts.{verdict-fine, verdict-bad}
 use Rattle.text_paths.specs.Whole.{ElementsIs}
 use Rattle.text_paths.specs.Joins.{joins, unjoined}
-use Rattle.text_elements.specs.declared.marks.Verdict.{Verdict}
 use Rattle.text_paths.specs.declared.Joined.{Joined}
 use Rattle.read_grammar.specs.Limits.Limits.{AllowedIs}
 use Rattle.doc_items.specs.Keys.{HeldKeys, key_sizes}
@@ -43,16 +42,16 @@ fails : (s : List ℕ) (end first allowed : ℕ) (es : List Element) (x : Refusa
 unfolding field_judged
 fails s end first allowed es x e value_at nesting items = rw e
 
-module _ {s : List ℕ} {c : Cursor} {count : ℕ} {empty : Bool} {first : DocAt} {allowed : ℕ} {marks : List ℕ} {v : Verdict}
+module _ {s : List ℕ} {c : Cursor} {count : ℕ} {empty : Bool} {first : DocAt} {allowed : ℕ} {marks : List ℕ} {v : Result (Unit {0}) Refused}
     (k : JudgeIs count empty first.0 allowed marks v) where
-  pub judged-bad : {n : ℕ} {d : DocAt} → v ≡ Verdict.Refused n d → JudgeKeyIs s c.at.0 count empty first.0 allowed marks (Err (refusal n d))
-  judged-bad {n} {d} z = record {
+  pub judged-bad : {y : Refused} → v ≡ Err y → JudgeKeyIs s c.at.0 count empty first.0 allowed marks (Err y)
+  judged-bad {y} z = record {
     is = λ es out w i j.
-        let (x, o, f, g) = verdict-bad first.0 allowed es n d (sym z ∙ k.is es out w i j) in
+        let (x, o, f, g) = verdict-bad first.0 allowed es y (sym z ∙ k.is es out w i j) in
         (x, fails s c.at.0 first.0 allowed es x o, f, g);
   }
 
-  module _ (z : v ≡ Verdict.Fine) {p : Result Cursor Refused} (h : PlaceIs (value_place s c.at.0) s c.at.0 p) where
+  module _ (z : v ≡ Ok tt) {p : Result Cursor Refused} (h : PlaceIs (value_place s c.at.0) s c.at.0 p) where
     misplaced : (es : List Element) → 0 < length es → judge first.0 allowed es ≡ none → (x : Refusal) → value_place s c.at.0 ≡ refused x
         → (value_at : Values) (nesting items : ℕ) → field_judged value_at s nesting c.at.0 items es (judge first.0 allowed es) ≡ refused x
     unfolding field_judged field_with
@@ -215,21 +214,21 @@ done-path s at allowed text marks end gs q (e ∷ es) r h z b w f v u =
           ∙ ap (λ y. valued value_at nesting v.next.at.0 (items + y) (record { text = e.text; place = e.place }) (keys_of es)) (sym count),
     )
 
-module _ {s : List ℕ} {at allowed : ℕ} {text marks : List ℕ} (a : PathAsked s at allowed text marks) {text₁ marks₁ : List ℕ} {j : Joined}
+module _ {s : List ℕ} {at allowed : ℕ} {text marks : List ℕ} (a : PathAsked s at allowed text marks) {text₁ marks₁ : List ℕ} {j : Result Joined Refused}
     (k : ElementsIs true s at text marks text₁ marks₁ j) where
-  pub path-unjoined : {n : ℕ} {d : DocAt} → j ≡ Joined.Refused n d → PathIs s at allowed text marks text₁ marks₁ (Err (refusal n d))
-  path-unjoined {n} {d} e =
-      let (x, q, f, g) = unjoined k n d e in
+  pub path-unjoined : {y : Refused} → j ≡ Err y → PathIs s at allowed text marks text₁ marks₁ (Err y)
+  path-unjoined {y} e =
+      let (x, q, f, g) = unjoined k y e in
       record { is = (x, λ value_at nesting items i. keyed-fail s at x q value_at nesting items, f, g); same_text = k.same_out; same-marks = k.same-marks }
 
-  module _ {n : ℕ} {f : Bool} {c : Cursor} (e : j ≡ Joined.Elements n f c) where
-    pub path-none : n ≡ 0 → PathIs s at allowed text marks text₁ marks₁ (Err (refusal 3 c.at))
+  module _ {p : Joined} (e : j ≡ Ok p) where
+    pub path-none : p.count ≡ 0 → PathIs s at allowed text marks text₁ marks₁ (Err (refusal 3 p.next.at))
     path-none z =
         let none-there : length (elements_of (joins k e).gs) ≡ 0 = omega (arith, (joins k e).count) in
         record {
           is = (
-            placed 3 c.at.0,
-            λ value_at nesting items i. none_read s at c.at.0 (joins k e).gs (joins k e).is none-there value_at nesting items,
+            placed 3 p.next.at.0,
+            λ value_at nesting items i. none_read s at p.next.at.0 (joins k e).gs (joins k e).is none-there value_at nesting items,
             refl,
             refl,
           );
@@ -237,24 +236,24 @@ module _ {s : List ℕ} {at allowed : ℕ} {text marks : List ℕ} (a : PathAske
           same-marks = k.same-marks;
         }
 
-    pub asks-judged : JudgeKeyAsked s c.at.0 allowed marks₁
+    pub asks-judged : JudgeKeyAsked s p.next.at.0 allowed marks₁
     asks-judged = record { short = a.short; inside = (joins k e).inside; few = a.few; marks-room = omega (arith, k.same-marks, a.marks-room) }
 
-    judges : (r : Result KeyRead Refused) → 0 < n → Judges s c.at.0 at allowed (elements_of (joins k e).gs) r → Paths s at allowed text₁ marks₁ r
+    judges : (r : Result KeyRead Refused) → 0 < p.count → Judges s p.next.at.0 at allowed (elements_of (joins k e).gs) r → Paths s at allowed text₁ marks₁ r
     judges (Err y) l u = (
       u.0,
       λ value_at nesting items i.
-          keyed-by s at allowed c.at.0 (joins k e).gs (joins k e).is (elements_of (joins k e).gs) refl (omega (arith, (joins k e).count))
+          keyed-by s at allowed p.next.at.0 (joins k e).gs (joins k e).is (elements_of (joins k e).gs) refl (omega (arith, (joins k e).count))
           value_at nesting items i ∙ u.1 value_at nesting items,
       u.2,
       u.3,
     )
     judges (Ok v) l u =
         let es = elements_of (joins k e).gs in
-        done-path s at allowed text₁ marks₁ c.at.0 (joins k e).gs (joins k e).is es refl (joins k e).held (joins k e).short
-        (omega (arith, (joins k e).inside, a.short)) (elements-within s true at (joins k e).gs c.at.0 (joins k e).is) a.few v u
+        done-path s at allowed text₁ marks₁ p.next.at.0 (joins k e).gs (joins k e).is es refl (joins k e).held (joins k e).short
+        (omega (arith, (joins k e).inside, a.short)) (elements-within s true at (joins k e).gs p.next.at.0 (joins k e).is) a.few v u
 
-    pub path-judged : {r : Result KeyRead Refused} → (n ≡ 0 → ⊥) → JudgeKeyIs s c.at.0 n f at allowed marks₁ r → PathIs s at allowed text marks text₁ marks₁ r
+    pub path-judged : {r : Result KeyRead Refused} → (p.count ≡ 0 → ⊥) → JudgeKeyIs s p.next.at.0 p.count p.empty at allowed marks₁ r → PathIs s at allowed text marks text₁ marks₁ r
     path-judged {r} z w = record {
       is = judges r (omega (arith, z)) (w.is (elements_of (joins k e).gs) text₁ (joins k e).held (joins k e).count (joins k e).empty);
       same_text = k.same_out;

@@ -6,8 +6,6 @@ ghost use Rattle.read_keys.specs.Keys.{JudgeKeyAsked, JudgeKeyIs, PathAsked, Pat
 
 use codes::refusals;
 use text_chars::{Cursor, DocAt, Refusal};
-use text_elements::marks::Verdict;
-use text_paths::Joined;
 
 /// A key that was read and what parts it from its value: how many elements it has, and the cursor where its value stands. The elements'
 /// texts stand at the start of the buffer one behind the other, and the marks have the end and the place of each.
@@ -30,13 +28,9 @@ fn judge_key(
     requires { JudgeKeyAsked s.now end.at.0 allowed marks.now }
     ensures { JudgeKeyIs s.now end.at.0 count empty first.0 allowed marks.now result }
 {
-    match text_elements::marks::judge_elements(count, empty, first, allowed, marks) {
-        Verdict::Refused { number, place } => Err(Refusal { number, place }),
-        Verdict::Fine => {
-            let next = read_grammar::value_place(s, end)?;
-            Ok(KeyRead { count, next })
-        }
-    }
+    text_elements::marks::judge_elements(count, empty, first, allowed, marks)?;
+    let next = read_grammar::value_place(s, end)?;
+    Ok(KeyRead { count, next })
 }
 
 // A key that does not start with `include`.
@@ -52,18 +46,16 @@ fn key_path(
         text.new marks.new result }
 {
     let first = c.at;
-    match text_paths::elements(s, c, true, text, marks) {
-        Joined::Refused { number, place } => Err(Refusal { number, place }),
-        Joined::Elements { count, empty, next } => {
-            if count == 0 {
-                return Err(Refusal {
-                    number: refusals::BYTE_NOT_ALLOWED,
-                    place: next.at,
-                });
-            }
-            judge_key(s, next, first, count, empty, allowed, marks)
-        }
+    let path = text_paths::elements(s, c, true, text, marks)?;
+    if path.count == 0 {
+        return Err(Refusal {
+            number: refusals::BYTE_NOT_ALLOWED,
+            place: path.next.at,
+        });
     }
+    judge_key(
+        s, path.next, first, path.count, path.empty, allowed, marks,
+    )
 }
 
 /// The key at a place where a field stands, up to the place of its value. `left` is how many nestings more may be opened inside the

@@ -26,7 +26,6 @@ use Rattle.text_elements.specs.Marks.Judging.{JudgeIs}
 use Rattle.text_elements.specs.Marks.Verdicts.{verdict-fine, verdict-bad}
 use Rattle.text_paths.specs.Whole.{ElementsAsked, ElementsIs}
 use Rattle.text_paths.specs.Joins.{joins, unjoined}
-use Rattle.text_elements.specs.declared.marks.Verdict.{Verdict}
 use Rattle.text_paths.specs.declared.Joined.{Joined}
 use Rattle.doc_items.specs.Codes.{path_texts, path_ends}
 use Rattle.read_references.specs.References.{ends_to, OpenedIs, substitute, braced_scan, BraceAsked, Braces, BraceIs, Betweens, BetweenIs, EndsAsked, EndsIs, ReferenceAsked, ReferenceIs}
@@ -39,11 +38,11 @@ use Rattle.read_references.proofs.Held.{texts-length, held-texts, held-last, hel
 -- ---- the last byte
 
 module _ {s : List ℕ} {c : Cursor} {count : ℕ} {empty : Bool} {dollar : DocAt} {marks : List ℕ} {here : Step} (h : SeenIs s c.at.0 here) where
-  module _ (e : here.ch ≡ 125) {v : Verdict} (k : JudgeIs count empty dollar.0 max_path marks v) where
+  module _ (e : here.ch ≡ 125) {v : Result (Unit {0}) Refused} (k : JudgeIs count empty dollar.0 max_path marks v) where
     closes : byte_at s c.at.0 ≡ 125
     closes = ascii-byte s c.at.0 (omega (arith, h.is)) ∙ sym h.is ∙ e
 
-    pub brace-fine : v ≡ Verdict.Fine → BraceIs s c.at.0 count empty dollar.0 marks (Ok here.next)
+    pub brace-fine : v ≡ Ok tt → BraceIs s c.at.0 count empty dollar.0 marks (Ok here.next)
     unfolding braced_scan
     brace-fine z =
         let q : byte_at s c.at.0 ≡ 125 = closes in
@@ -65,10 +64,10 @@ module _ {s : List ℕ} {c : Cursor} {count : ℕ} {empty : Bool} {dollar : DocA
     unfolding braced_scan
     fails es optional x o = rw (eq-eqb (byte_at s c.at.0) 125 closes, o, braced_scan)
 
-    pub brace-judged : {n : ℕ} {d : DocAt} → v ≡ Verdict.Refused n d → BraceIs s c.at.0 count empty dollar.0 marks (Err (refusal n d))
-    brace-judged {n} {d} z = record {
+    pub brace-judged : {y : Refused} → v ≡ Err y → BraceIs s c.at.0 count empty dollar.0 marks (Err y)
+    brace-judged {y} z = record {
       is = λ es out w i j.
-          let (x, o, f, g) = verdict-bad dollar.0 max_path es n d (sym z ∙ k.is es out w i j) in
+          let (x, o, f, g) = verdict-bad dollar.0 max_path es y (sym z ∙ k.is es out w i j) in
           (x, λ optional. fails es optional x o, f, g);
     }
 
@@ -92,37 +91,37 @@ braced-by : (s : List ℕ) (dollar : ℕ) (optional : Bool) (at : ℕ)
 unfolding braced braced_scan
 braced-by s dollar optional at = refl
 
-module _ {s : List ℕ} {start : ℕ} {text marks : List ℕ} (a : ElementsAsked s start text marks) {text₁ marks₁ : List ℕ} {j : Joined}
+module _ {s : List ℕ} {start : ℕ} {text marks : List ℕ} (a : ElementsAsked s start text marks) {text₁ marks₁ : List ℕ} {j : Result Joined Refused}
     (k : ElementsIs false s start text marks text₁ marks₁ j) where
   room : marks_room ≤ length marks₁
   room = omega (arith, k.same-marks, a.marks-room)
 
-  pub between-unjoined : {dollar n : ℕ} {d : DocAt} → j ≡ Joined.Refused n d → BetweenIs s start dollar text text₁ marks₁ (Err (refusal n d))
-  between-unjoined {dollar} {n} {d} e =
-      let (x, q, f, g) = unjoined k n d e in
+  pub between-unjoined : {dollar : ℕ} {y : Refused} → j ≡ Err y → BetweenIs s start dollar text text₁ marks₁ (Err y)
+  between-unjoined {dollar} {y} e =
+      let (x, q, f, g) = unjoined k y e in
       record { is = (x, λ o. braced-by s dollar o start ∙ rw q, f, g); kept = k.same_out; marks-room = room }
 
-  module _ {n : ℕ} {f : Bool} {c : Cursor} (e : j ≡ Joined.Elements n f c) where
-    pub asks-closed : BraceAsked s c.at.0 marks₁
+  module _ {q : Joined} (e : j ≡ Ok q) where
+    pub asks-closed : BraceAsked s q.next.at.0 marks₁
     asks-closed = record { short = a.short; inside = (joins k e).inside; marks-room = room }
 
     -- by its elements
-    by-elements : (dollar : ℕ) (o : Bool) → braced s dollar o start ≡ braced_scan s dollar o (elements_of (joins k e).gs) c.at.0
+    by-elements : (dollar : ℕ) (o : Bool) → braced s dollar o start ≡ braced_scan s dollar o (elements_of (joins k e).gs) q.next.at.0
     by-elements dollar o = braced-by s dollar o start ∙ rw (joins k e).is
 
-    module _ {dollar : ℕ} {b : Result Cursor Refused} (w : BraceIs s c.at.0 n f dollar marks₁ b) where
-      ending : Braces s dollar (elements_of (joins k e).gs) c.at.0 b
+    module _ {dollar : ℕ} {b : Result Cursor Refused} (w : BraceIs s q.next.at.0 q.count q.empty dollar marks₁ b) where
+      ending : Braces s dollar (elements_of (joins k e).gs) q.next.at.0 b
       ending = w.is (elements_of (joins k e).gs) text₁ (joins k e).held (joins k e).count (joins k e).empty
 
       pub between-unclosed : {y : Refused} → b ≡ Err y → BetweenIs s start dollar text text₁ marks₁ (Err y)
       between-unclosed {y} z =
-          let u : Braces s dollar (elements_of (joins k e).gs) c.at.0 (Err y) = rw z at ending in
+          let u : Braces s dollar (elements_of (joins k e).gs) q.next.at.0 (Err y) = rw z at ending in
           record { is = (u.0, λ o. by-elements dollar o ∙ u.1 o, u.2, u.3); kept = k.same_out; marks-room = room }
 
-      pub between_done : {p : Cursor} → b ≡ Ok p → BetweenIs s start dollar text text₁ marks₁ (Ok (record { count = n; next = p }))
+      pub between_done : {p : Cursor} → b ≡ Ok p → BetweenIs s start dollar text text₁ marks₁ (Ok (record { count = q.count; next = p }))
       between_done {p} z =
           let es = elements_of (joins k e).gs in
-          let u : Braces s dollar es c.at.0 (Ok p) = rw z at ending in
+          let u : Braces s dollar es q.next.at.0 (Ok p) = rw z at ending in
           record {
             is = (
               es,

@@ -11,8 +11,6 @@ ghost use Rattle.read_references.specs.ReferencePieces.{ReferencePieceAsked, Ref
 use codes::{bytes, limits};
 use read_values::pieces::PieceItem;
 use text_chars::{Cursor, DocAt, Refusal, TextAt, TextLen};
-use text_elements::marks::Verdict;
-use text_paths::Joined;
 
 // A substitution that was read: whether it is optional, how many elements its path has, the size of their texts, and the cursor past it.
 // The texts stand at the start of the buffer one behind the other, and behind them the end of each in two bytes.
@@ -67,10 +65,8 @@ fn close_reference(
 {
     let here = text_scan::look(s, end);
     if here.ch == bytes::CLOSE_BRACE {
-        return match text_elements::marks::judge_path(count, empty, dollar, marks) {
-            Verdict::Fine => Ok(here.next),
-            Verdict::Refused { number, place } => Err(Refusal { number, place }),
-        };
+        text_elements::marks::judge_path(count, empty, dollar, marks)?;
+        return Ok(here.next);
     }
     Err(Refusal {
         number: read_grammar::not_allowed(s, end),
@@ -95,13 +91,14 @@ fn path_between(
     requires { ElementsAsked s.now start.at.0 text.old marks.old }
     ensures { BetweenIs s.now start.at.0 dollar.0 text.old text.new marks.new result }
 {
-    match text_paths::elements(s, start, false, text, marks) {
-        Joined::Refused { number, place } => Err(Refusal { number, place }),
-        Joined::Elements { count, empty, next } => {
-            let after = close_reference(s, next, count, empty, dollar, marks)?;
-            Ok(Between { count, next: after })
-        }
-    }
+    let path = text_paths::elements(s, start, false, text, marks)?;
+    let next = close_reference(
+        s, path.next, path.count, path.empty, dollar, marks,
+    )?;
+    Ok(Between {
+        count: path.count,
+        next,
+    })
 }
 
 // Writes the ends of a path's elements behind their texts; the answer is the size of the texts.
