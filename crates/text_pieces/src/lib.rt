@@ -11,7 +11,6 @@ ghost use Rattle.text_pieces.specs.Clauses.{LeadIs, TextAsked, ScanIs, quoted_to
 use codes::{bytes, kinds, refusals};
 use text_chars::{Cursor, DocAt, TextLen};
 use text_escapes::Quoted;
-use text_numbers::Number;
 use text_unquoted::Word;
 
 /// A simple piece that was read, with the cursor past it.
@@ -87,11 +86,11 @@ fn number_piece(s: &[u8], c: Cursor) -> Piece
     ensures { ScanIs (number_at s.now c.at.0) s.now c.at.0 result }
 {
     match text_numbers::after_number(s, c) {
-        Number::End(next) => Piece::Plain {
+        Some(next) => Piece::Plain {
             kind: kinds::NUMBER,
             next,
         },
-        Number::Missing => {
+        None => {
             let place = c.at;
             Piece::Refused {
                 number: refusals::BAD_NUMBER_OR_STRING,
