@@ -13,7 +13,7 @@ ghost use Rattle.job_profile.specs.Packed.{Packable, packed_profile};
 use codes::{kinds, limits, profiles, refusals};
 use sheet_records::kinds::pair_at;
 use text_chars::{DocAt, RecAt, Refusal, TextLen, record_byte};
-use text_profiles::{Edition, Length, bare_length, written_length};
+use text_profiles::{Edition, bare_length, written_length};
 
 /// A table's profile: its edition, and both limits in ten-thousandths of a millimetre.
 #[derive(Clone, Copy)]
@@ -60,20 +60,20 @@ fn plate_text<'a>(table: &[u8], text: &'a [u8], key: &[u8], kind: u32) -> &'a [u
 }
 
 // Both limits of an edition, of which each may be missing.
-fn limits_of(edition: u8, low: Length, high: Length) -> Result<Limits, Refusal>
+fn limits_of(edition: u8, low: Option<u32>, high: Option<u32>) -> Result<Limits, Refusal>
     ensures { profile_of result ≡ limits_of edition (length_as low) (length_as high) }
 {
     match low {
-        Length::Missing => Err(Refusal {
+        None => Err(Refusal {
             number: refusals::BAD_MINIMUM,
             place: DocAt(0),
         }),
-        Length::TenThousandths(minimum) => match high {
-            Length::Missing => Err(Refusal {
+        Some(minimum) => match high {
+            None => Err(Refusal {
                 number: refusals::BAD_MAXIMUM,
                 place: DocAt(0),
             }),
-            Length::TenThousandths(maximum) => {
+            Some(maximum) => {
                 if maximum < minimum {
                     return Err(Refusal {
                         number: refusals::MINIMUM_ABOVE_MAXIMUM,
@@ -96,11 +96,11 @@ fn first_edition(table: &[u8], text: &[u8]) -> Result<Limits, Refusal>
     ensures { profile_of result ≡ first_edition table.now text.now }
 {
     match text_profiles::step_of(member_text(table, text, b"unit", STRING, RecAt(0))) {
-        Length::Missing => Err(Refusal {
+        None => Err(Refusal {
             number: refusals::BAD_UNIT,
             place: DocAt(0),
         }),
-        Length::TenThousandths(step) => {
+        Some(step) => {
             let low = bare_length(plate_text(table, text, b"min", NUMBER), step);
             let high = bare_length(plate_text(table, text, b"max", NUMBER), step);
             limits_of(profiles::FIRST, low, high)
@@ -144,9 +144,9 @@ pub fn profile(table: &[u8], text: &[u8]) -> Result<Limits, Refusal>
     }
     if sheet_records::is_whole(table, TextLen(text.len())) {
         match text_profiles::edition_of(member_text(table, text, b"profile", NUMBER, RecAt(0))) {
-            Edition::First => first_edition(table, text),
-            Edition::Second => second_edition(table, text),
-            Edition::Unnamed => Err(Refusal {
+            Some(Edition::First) => first_edition(table, text),
+            Some(Edition::Second) => second_edition(table, text),
+            None => Err(Refusal {
                 number: refusals::BAD_PROFILE,
                 place: DocAt(0),
             }),
