@@ -29,7 +29,7 @@ use Rattle.sheet_records.specs.Kinds.Ends.{none_is, some_is, between_is}
 use Rattle.sheet_records.specs.Clauses.{past_member}
 use Rattle.text_profiles.specs.Clauses.{max_length, edition_as, length_as, LengthIs}
 use Rattle.text_profiles.specs.declared.Edition as code
-use Rattle.std.specs.Prelude.{Option as Maybe, Some, None}
+use Rattle.std.specs.Prelude.{Option as Maybe}
 use Rattle.job_length.specs.Clauses.{WholeTable}
 use Rattle.job_profile.specs.Clauses.{ProfileRead, bounds, ValueAt, TextKind, text_or, TextIs, profile_of}
 use Rattle.job_profile.specs.Editions.{profile-long, profile-not-whole, profile-editions}
