@@ -136,14 +136,11 @@ fn write_ends(marks: &[usize], count: usize, text: &mut [u8]) -> TextLen
     let last = count - 1;
     let whole = text_elements::marks::end_at(marks, last);
     let size = whole.0;
-    let mut i = 0;
-    while i < count {
+    for i in 0..count {
         let end = text_elements::marks::end_at(marks, i);
-        let e = end.0;
         let k = size + 2 * i;
-        text[k] = (e / 256) as u8;
-        text[k + 1] = (e % 256) as u8;
-        i += 1;
+        text[k] = (end.0 / 256) as u8;
+        text[k + 1] = (end.0 % 256) as u8;
     }
     TextLen(size)
 }
