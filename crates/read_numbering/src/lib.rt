@@ -65,8 +65,7 @@ pub fn number_items(table: &mut [u16], items: usize) -> Count
     ensures { NumberIs table.old items table.new result }
 {
     let mut count = 0;
-    let mut i = 0;
-    while i < items {
+    for i in 0..items {
         match number_item(table, i, count) {
             Count::Excess { place } => {
                 return Count::Excess { place };
@@ -75,7 +74,6 @@ pub fn number_items(table: &mut [u16], items: usize) -> Count
                 count = next;
             }
         }
-        i += 1;
     }
     Count::Done { count }
 }
