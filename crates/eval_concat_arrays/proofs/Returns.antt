@@ -6,13 +6,12 @@ use mathlib.Core.List.{List}
 use Rattle.std.specs.Prelude.{Ok, Err}
 use mathlib.Core.Logic.{inl, inr}
 use native.Mathlib.Omega.{arith}
-use lib.Dec.{eqb, leb}
+use lib.Dec.{eqb}
 use lib.ListN.{length, get_or}
-use borrow.Author.Tests.{leb-true, leb-false}
 use Rattle.answers.specs.Ask.{Trail, lookup, then}
 use Rattle.answers.specs.Theory.Sound.{clash}
 use Rattle.rules.specs.Bytes.{Text}
-use Rattle.rules.specs.Sizes.{max_records, max_room}
+use Rattle.rules.specs.Sizes.{max_room}
 use Rattle.rules.specs.Tree.{simple, array, object, unresolved}
 use Rattle.rules.specs.Values.{Answer, scalar, array_of, object_of}
 use Rattle.rules.specs.Layers.{Layer, written, settled}
@@ -76,18 +75,6 @@ module _ {T B : List ℕ} {c : ℕ} where
   }
 
 pub ruleset telling = (told-item, told-record)
-
-module _ {from : Out} {n : ℕ} {e : Extent} where
-  pub before-records : e.out.rec.0 < from.rec.0 → JoinableIs from n e false
-  before-records l = record { yes = λ z. clash (cc (z)); no = λ z k m. absurd (omega arith) }
-
-  pub before-texts : e.out.text.0 < from.text.0 → JoinableIs from n e false
-  before-texts l = record { yes = λ z. clash (cc (z)); no = λ z k m. absurd (omega arith) }
-
-  pub in_order : from.rec.0 ≤ e.out.rec.0 → from.text.0 ≤ e.out.text.0 → JoinableIs from n e (leb n max_records)
-  in_order k m = record { yes = λ z. record { rec = k; text = m; few = leb-true n max_records z }; no = λ z p q. leb-false n max_records z }
-
-pub ruleset ordering = (before-records, before-texts, in_order)
 
 -- ---- elements
 
