@@ -3,35 +3,36 @@ use mathlib.Core.Path.{◌≡◌, refl, sym, ap, ◌∙◌}
 use Prim.Native.Nat.{ℕ, ◌+◌, ◌*◌, ◌-◌}
 use mathlib.Core.Bool.{Bool, true, false}
 use mathlib.Core.List.{List, ◌∷◌, ◌++◌}
+use Rattle.std.specs.Prelude.{Ok, Err, Some, None}
 use Rattle.rules.specs.Sheet.{two}
+use Rattle.text_chars.specs.Cursor.{doc, refusal}
+use Rattle.text_chars.specs.declared.Refusal.{Refusal}
 use Rattle.doc_items.specs.Writing.{ReadIs}
 use Rattle.eval_writer.specs.Clauses.{Puts}
 use Rattle.eval_results.specs.Sizes.Contracts.{within_c}
 use Rattle.eval_results.specs.declared.extents.Extent.{Extent}
 use Rattle.eval_results.specs.declared.sizes.Answered.{Answered}
-use Rattle.eval_concat.specs.Model.{out, join, records_of, text_of, mixed_at, tested_c, start_of}
+use Rattle.eval_concat.specs.Model.{out, join, records_of, text_of, too_large_c, mixed_at, tested_c, start_of}
 use Rattle.eval_concat.specs.Answers.{AnswerIs}
-use Rattle.eval_concat.specs.Objects.{object_by, object_c, ObjectIs}
+use Rattle.eval_concat.specs.Objects.{ObjectJoined, object_by, object_c, ObjectIs}
 use Rattle.eval_concat.specs.declared.Kind.{Kind}
 use Rattle.eval_concat.specs.declared.Join.{Join}
-use Rattle.eval_concat.specs.declared.Joined.{Joined}
-use Rattle.eval_concat.specs.declared.ObjectJoined.{ObjectJoined}
 
 -- ---- decisions
 
 module _ (j : Join) {f : Bool} (h : f ≡ within_c j.extent) where
-  pub tested-so : f ≡ true → Joined.So j ≡ tested_c j
+  pub tested-so : f ≡ true → Ok j ≡ tested_c j
   unfolding tested_c
   tested-so e = rw (tested_c, sym h ∙ e)
 
-  pub tested-large : f ≡ false → Joined.TooLarge ≡ tested_c j
+  pub tested-large : {e : Refusal} → f ≡ false → e ≡ too_large_c → Err e ≡ tested_c j
   unfolding tested_c
-  tested-large e = rw (tested_c, sym h ∙ e)
+  tested-large e q = ap Err q ∙ rw (tested_c, sym h ∙ e)
 
 pub ruleset tested-laws = (tested-so, tested-large)
 
-pub mixed-is : {T : List ℕ} (i : ℕ) {p : ℕ} → ReadIs T (8 * i + 6) p → Joined.Mixed (record { 0 = p }) ≡ mixed_at T i
-mixed-is i h = ap (λ (q : ℕ). Joined.Mixed (record { 0 = q })) h.is
+pub mixed-is : {T : List ℕ} (i : ℕ) {p : ℕ} → ReadIs T (8 * i + 6) p → refusal 11 (doc p) ≡ mixed_at T i
+mixed-is i h = ap (λ (q : ℕ). refusal 11 (doc q)) h.is
 
 -- ---- arrays
 
@@ -53,25 +54,25 @@ pub ruleset start-laws = (start-array, start-blank, start-simple, start-object)
 -- ---- objects
 
 module _ {T : List ℕ} {i : ℕ} {j : Join} {e : Extent} {f : Bool} (h : f ≡ within_c e) where
-  pub object-large : f ≡ false → ObjectIs T i j e ObjectJoined.TooLarge
+  pub object-large : {x : Refusal} → f ≡ false → x ≡ too_large_c → ObjectIs T i j e (Err x)
   unfolding object_c
-  object-large w = record { is = rw (object_c, sym h ∙ w) }
+  object-large w q = record { is = ap Err q ∙ rw (object_c, sym h ∙ w) }
 
   module _ (w : f ≡ true) where
     decided : {r : ObjectJoined} → r ≡ object_by j.kind T i e → ObjectIs T i j e r
     unfolding object_c
     decided d = record { is = d ∙ rw (object_c, sym h ∙ w) }
 
-    pub object-simple : {p : ℕ} → j.kind ≡ Kind.Simple → ReadIs T (8 * i + 6) p → ObjectIs T i j e (ObjectJoined.Mixed (record { 0 = p }))
-    object-simple k q = decided (rw k (ap (λ (n : ℕ). ObjectJoined.Mixed (record { 0 = n })) q.is))
+    pub object-simple : {x : Refusal} → j.kind ≡ Kind.Simple → x ≡ mixed_at T i → ObjectIs T i j e (Err x)
+    object-simple k q = decided (rw k (ap Err q))
 
-    pub object-array : {c p : ℕ} → j.kind ≡ Kind.Array c → ReadIs T (8 * i + 6) p → ObjectIs T i j e (ObjectJoined.Mixed (record { 0 = p }))
-    object-array k q = decided (rw k (ap (λ (n : ℕ). ObjectJoined.Mixed (record { 0 = n })) q.is))
+    pub object-array : {x : Refusal} {c : ℕ} → j.kind ≡ Kind.Array c → x ≡ mixed_at T i → ObjectIs T i j e (Err x)
+    object-array k q = decided (rw k (ap Err q))
 
-    pub object-first : j.kind ≡ Kind.Blank → ObjectIs T i j e (ObjectJoined.So (join Kind.Object e))
+    pub object-first : j.kind ≡ Kind.Blank → ObjectIs T i j e (Ok (Some (join Kind.Object e)))
     object-first k = decided (rw k)
 
-    pub object-merge : j.kind ≡ Kind.Object → ObjectIs T i j e ObjectJoined.Merge
+    pub object-merge : j.kind ≡ Kind.Object → ObjectIs T i j e (Ok None)
     object-merge k = decided (rw k)
 
 pub ruleset object-laws = (object-large, object-simple, object-array, object-first, object-merge)

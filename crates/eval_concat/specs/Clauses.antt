@@ -7,11 +7,10 @@ use Rattle.eval_writer.specs.Model.{word_at, key_at, key_len}
 use Rattle.eval_writer.specs.Clauses.{Room, PutsText}
 use Rattle.eval_writer.specs.declared.Out.{Out}
 use Rattle.eval_results.specs.declared.extents.Extent.{Extent}
-use Rattle.eval_concat.specs.Model.{text_of, text_join, tested_c, takes_text, nothing_c, text_c, members_by, members_c}
+use Rattle.eval_concat.specs.Model.{Joined, text_of, text_join, tested_c, takes_text, nothing_c, text_c, members_by, members_c}
 use Rattle.eval_concat.specs.Pieces.{TextPut}
 use Rattle.eval_concat.specs.declared.Kind.{Kind}
 use Rattle.eval_concat.specs.declared.Join.{Join}
-use Rattle.eval_concat.specs.declared.Joined.{Joined}
 
 -- Counters go on past the room: from here on they may still be added to.
 abbrev pub farthest : ℕ

@@ -1,6 +1,8 @@
 -- What the code computes, on the numbers that it has. Nothing is assumed of them.
-use Rattle.std.specs.Prelude.{ℕ, ◌+◌, ◌*◌, ◌-◌, max, Bool, true, false, cond, List, leb, get_or}
+use Rattle.std.specs.Prelude.{ℕ, ◌+◌, ◌*◌, ◌-◌, max, Bool, true, false, cond, List, leb, get_or, Result, Ok, Err}
 use Rattle.rules.specs.Sizes.{max_text}
+use Rattle.text_chars.specs.Cursor.{doc, refusal}
+use Rattle.text_chars.specs.declared.Refusal.{Refusal}
 use Rattle.eval_writer.specs.Model.{key_len}
 use Rattle.eval_writer.specs.declared.Out.{Out}
 use Rattle.eval_results.specs.Sizes.Contracts.{within_c}
@@ -8,7 +10,6 @@ use Rattle.eval_results.specs.declared.extents.Extent.{Extent}
 use Rattle.eval_results.specs.declared.sizes.Answered.{Answered}
 use Rattle.eval_concat.specs.declared.Kind.{Kind}
 use Rattle.eval_concat.specs.declared.Join.{Join}
-use Rattle.eval_concat.specs.declared.Joined.{Joined}
 
 abbrev pub out : (rec text : ℕ) → Out
 out rec text = record { rec = record { 0 = rec }; text = record { 0 = text } }
@@ -32,13 +33,22 @@ blank_join n = join Kind.Blank (extent_at 0 n 0)
 abbrev pub text_join : ℕ → Join
 text_join n = join Kind.Simple (extent_at 5 n 0)
 
-abbrev pub mixed_at : List ℕ → ℕ → Joined
-mixed_at T i = Joined.Mixed (record { 0 = get_or T (8 * i + 6) 0 })
+-- the join with one piece more, or its refusal
+abbrev pub Joined : Type 0
+Joined = Result Join Refusal
+
+-- the piece or the join is over its size
+abbrev pub too_large_c : Refusal
+too_large_c = refusal 13 (doc 0)
+
+-- kinds are mixed at a piece
+abbrev pub mixed_at : List ℕ → ℕ → Refusal
+mixed_at T i = refusal 11 (doc (get_or T (8 * i + 6) 0))
 
 -- the size of the join so far
 unfoldable pub tested_c : Join → Joined
 unfolding within_c
-tested_c j = cond (within_c j.extent) (Joined.So j) Joined.TooLarge
+tested_c j = cond (within_c j.extent) (Ok j) (Err too_large_c)
 
 -- whether a text may be joined
 abbrev pub takes_text : Kind → Bool
@@ -49,10 +59,10 @@ takes_text Kind.Object = false
 
 -- a piece that is undefined; n is how long a text would be with the whitespace before the piece
 abbrev pub nothing_by : Kind → Join → (n : ℕ) → Joined
-nothing_by Kind.Blank j n = Joined.So (blank_join n)
+nothing_by Kind.Blank j n = Ok (blank_join n)
 nothing_by Kind.Simple j n = tested_c (text_join n)
-nothing_by (Kind.Array count) j n = Joined.So j
-nothing_by Kind.Object j n = Joined.So j
+nothing_by (Kind.Array count) j n = Ok j
+nothing_by Kind.Object j n = Ok j
 
 unfoldable pub nothing_c : List ℕ → ℕ → Join → Joined
 unfolding tested_c
@@ -62,7 +72,7 @@ nothing_c T i j = nothing_by j.kind j (text_of j + key_len T i)
 unfoldable pub text_c : List ℕ → ℕ → (n : ℕ) → Join → Joined
 unfolding tested_c
 text_c T i n j =
-    cond (leb n max_text) (cond (takes_text j.kind) (tested_c (text_join (text_of j + key_len T i + n))) (mixed_at T i)) Joined.TooLarge
+    cond (leb n max_text) (cond (takes_text j.kind) (tested_c (text_join (text_of j + key_len T i + n))) (Err (mixed_at T i))) (Err too_large_c)
 
 -- where the elements of an array are written
 abbrev pub start_by : Kind → Out → Out
@@ -80,13 +90,13 @@ piece_c from r = extent_at (r.out.rec.0 - from.rec.0 + 3) (r.out.text.0 - from.t
 
 abbrev pub members_by : Kind → List ℕ → ℕ → Join → (n : ℕ) → Extent → Joined
 members_by Kind.Blank T i j n r = tested_c (join (Kind.Array n) (record { out = r.out; deep = r.deep + 1 }))
-members_by Kind.Simple T i j n r = mixed_at T i
+members_by Kind.Simple T i j n r = Err (mixed_at T i)
 members_by (Kind.Array count) T i j n r = tested_c (join (Kind.Array (count + n)) (record { out = r.out; deep = max j.extent.deep (r.deep + 1) }))
-members_by Kind.Object T i j n r = mixed_at T i
+members_by Kind.Object T i j n r = Err (mixed_at T i)
 
 unfoldable pub members_c : List ℕ → ℕ → Join → Out → (n : ℕ) → Extent → Joined
 unfolding tested_c within_c
-members_c T i j from n r = cond (within_c (piece_c from r)) (members_by j.kind T i j n r) Joined.TooLarge
+members_c T i j from n r = cond (within_c (piece_c from r)) (members_by j.kind T i j n r) (Err too_large_c)
 
 -- all pieces are joined
 abbrev pub answer_by : Kind → Extent → Answered

@@ -1,39 +1,45 @@
 -- An object piece: what the code decides, and that it is the rules' decision. Where the join is an object too the two merge; what is left then
 -- is the size of the merged object.
-use Rattle.std.specs.Prelude.{◌≡◌, ℕ, ◌*◌, ◌+◌, Bool, cond, List, get_or}
+use Rattle.std.specs.Prelude.{◌≡◌, ℕ, Bool, cond, List, Result, Ok, Err, Some, None}
 use Rattle.std.proofs.Math.Path.{refl, sym}
 use Rattle.std.proofs.Common.{ap, ◌∙◌}
 use Rattle.std.proofs.Math.Bool.{true, false}
+use mathlib.Core.Logic.{inl, inr}
 use Rattle.std.proofs.Math.Option.{some}
+use Rattle.std.specs.declared.option.Option.{Option}
 use Rattle.answers.specs.Ask.{value, refused, then}
 use Rattle.rules.specs.Bytes.{Text}
-use Rattle.rules.specs.Refusals.{placed, nowhere}
+use Rattle.rules.specs.Refusals.{placed}
 use Rattle.rules.specs.Values.{object_of, Members, merge_members}
 use Rattle.rules.specs.Settled.{Given}
 use Rattle.rules.specs.Unresolved as rules
 use Rattle.rules.specs.Unresolved.{join_answer}
 use Rattle.theory.specs.SettledAnswers.{sized_in, join_value_in, join_piece_in}
+use Rattle.text_chars.specs.declared.Refusal.{Refusal}
 use Rattle.sheet_kept.specs.Kept.{Held}
 use Rattle.eval_results.specs.declared.extents.Extent.{Extent}
 use Rattle.eval_results.specs.Sizes.Contracts.{within_c}
 use Rattle.eval_results.specs.Sizes.Answers.{ValueIn, value-within}
-use Rattle.eval_concat.specs.Model.{join, tested_c}
-use Rattle.eval_concat.specs.Standing.{PieceAt, JoinIn, JoinedIs}
+use Rattle.eval_concat.specs.Model.{join, too_large_c, mixed_at, tested_c}
+use Rattle.eval_concat.specs.Standing.{PieceAt, JoinIn, JoinRefused, JoinedIs}
 use Rattle.eval_concat.specs.Pieces.{piece-small, piece-large, object-tested}
 use Rattle.eval_concat.specs.declared.Kind.{Kind}
 use Rattle.eval_concat.specs.declared.Join.{Join}
-use Rattle.eval_concat.specs.declared.ObjectJoined.{ObjectJoined}
+
+-- the join with an object more, none where it is an object too and the two merge, or a refusal
+abbrev pub ObjectJoined : Type 0
+ObjectJoined = Result (Option Join) Refusal
 
 -- an object piece that is within its size
 abbrev pub object_by : Kind → List ℕ → ℕ → Extent → ObjectJoined
-object_by Kind.Blank T i e = ObjectJoined.So (join Kind.Object e)
-object_by Kind.Simple T i e = ObjectJoined.Mixed (record { 0 = get_or T (8 * i + 6) 0 })
-object_by (Kind.Array count) T i e = ObjectJoined.Mixed (record { 0 = get_or T (8 * i + 6) 0 })
-object_by Kind.Object T i e = ObjectJoined.Merge
+object_by Kind.Blank T i e = Ok (Some (join Kind.Object e))
+object_by Kind.Simple T i e = Err (mixed_at T i)
+object_by (Kind.Array count) T i e = Err (mixed_at T i)
+object_by Kind.Object T i e = Ok None
 
 unfoldable pub object_c : List ℕ → ℕ → Join → Extent → ObjectJoined
 unfolding within_c
-object_c T i j e = cond (within_c e) (object_by j.kind T i e) ObjectJoined.TooLarge
+object_c T i j e = cond (within_c e) (object_by j.kind T i e) (Err too_large_c)
 
 pub record ObjectIs (T : List ℕ) (i : ℕ) (j : Join) (e : Extent) (r : ObjectJoined) : Type 0 where
   pub is : r ≡ object_c T i j e
@@ -45,12 +51,10 @@ module _ (key : ℕ → Text) (P : Held → Type 0) where
     pub is : J ≡ rules.joined_object lower
     pub left : g ≡ sized_in (some (object_of (merge_members ns lower))) (rules.joined_object (merge_members ns lower))
 
-  -- document 01's numbers for each case of an answer
   abbrev pub ObjectCase : List ℕ → Members → rules.Join → Extent → Given rules.Join → ObjectJoined → Type 0
-  ObjectCase room ns J e g (ObjectJoined.So j) = (K : rules.Join) × (g ≡ value K) × JoinIn key P j room K
-  ObjectCase room ns J e g ObjectJoined.Merge = Merging ns J g × (within_c e ≡ true)
-  ObjectCase room ns J e g (ObjectJoined.Mixed place) = g ≡ refused (placed 11 place.0)
-  ObjectCase room ns J e g ObjectJoined.TooLarge = g ≡ refused (nowhere 13)
+  ObjectCase room ns J e g (Ok (Some j)) = (K : rules.Join) × (g ≡ value K) × JoinIn key P j room K
+  ObjectCase room ns J e g (Ok None) = Merging ns J g × (within_c e ≡ true)
+  ObjectCase room ns J e g (Err x) = JoinRefused g x
 
   pub record ObjectJoinedIs (room : List ℕ) (ns : Members) (J : rules.Join) (e : Extent) (g : Given rules.Join) (r : ObjectJoined) : Type 0 where
     pub is : ObjectCase room ns J e g r
@@ -71,10 +75,10 @@ module _ {key : ℕ → Text} {P : Held → Type 0} {T X : List ℕ} {i place : 
       record { is = rw k (rules.joined_object ns, rw (sized_in, sym (value-within x) ∙ w), record { is = (refl, x, w) }) }
   object-joined (rules.text t) h w =
       let k = h.is.0 in
-      record { is = rw k (ap (λ (n : ℕ). refused (placed 11 n)) (sym at.place)) }
+      record { is = rw k (inl (ap (λ (n : ℕ). refused (placed 11 n)) (sym at.place), refl)) }
   object-joined (rules.joined_array vs) h w =
       let k = h.is.0.kind in
-      record { is = rw k (ap (λ (n : ℕ). refused (placed 11 n)) (sym at.place)) }
+      record { is = rw k (inl (ap (λ (n : ℕ). refused (placed 11 n)) (sym at.place), refl)) }
   object-joined (rules.joined_object ms) h w =
       let k = h.is.0 in
       record { is = rw k (record { lower = ms; is = refl; left = refl }, w) }
@@ -89,5 +93,5 @@ module _ {key : ℕ → Text} {P : Held → Type 0} {T X : List ℕ} {i place : 
           let z : r ≡ object_by j.kind T i e = d.is ∙ rw (object_c, w) in
           rw (z, piece-small place gap (object_of ns) J (sym (value-within x) ∙ w)) (object-joined J h w)
       go false w =
-          let z : r ≡ ObjectJoined.TooLarge = d.is ∙ rw (object_c, w) in
-          record { is = rw z (piece-large place gap (object_of ns) J (sym (value-within x) ∙ w)) }
+          let z : r ≡ Err too_large_c = d.is ∙ rw (object_c, w) in
+          record { is = rw z (inr (piece-large place gap (object_of ns) J (sym (value-within x) ∙ w), refl)) }

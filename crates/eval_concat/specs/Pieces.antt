@@ -1,9 +1,10 @@
 -- The model on numbers is the rules' `join_piece`, number and place included, where the room holds the join so far: one law for each kind of
 -- piece.
-use Rattle.std.specs.Prelude.{◌≡◌, ℕ, ◌+◌, ◌≤◌, Bool, List, ◌++◌, length}
+use Rattle.std.specs.Prelude.{◌≡◌, ℕ, ◌+◌, ◌≤◌, Bool, List, ◌++◌, length, Ok}
 use Rattle.std.proofs.Math.Path.{refl, sym, ap}
 use Rattle.std.proofs.Common.{◌∙◌, arith}
 use Rattle.std.proofs.Math.Bool.{true, false}
+use mathlib.Core.Logic.{inl, inr}
 use Rattle.std.proofs.Math.Option.{none, some}
 use Rattle.std.proofs.Math.Dec.{leb}
 use borrow.Author.Tests.{leb-true}
@@ -31,7 +32,6 @@ use Rattle.eval_concat.specs.Helds.{join_helds, named-join, count-join, deepest-
 use Rattle.eval_concat.specs.Standing.{TextIn, more-text, PieceAt, ArrayIn, JoinIn, JoinedIs, MembersIn, array-within, members-within, members-written, members-deep, start-records}
 use Rattle.eval_concat.specs.declared.Kind.{Kind}
 use Rattle.eval_concat.specs.declared.Join.{Join}
-use Rattle.eval_concat.specs.declared.Joined.{Joined}
 
 -- ---- the rules, a step at a time
 
@@ -63,7 +63,7 @@ module _ {key : ℕ → Text} {P : Held → Type 0} {room : List ℕ} where
     where
       go : (t : Bool) → within_c j.extent ≡ t → JoinedIs key P room (sized_in (some v) J) (tested_c j)
       go true e = record { is = rw (tested_c, e) (J, rw (sized_in, sym w ∙ e), f e) }
-      go false e = record { is = rw (tested_c, e, sized_in, sym w ∙ e) refl }
+      go false e = record { is = rw (tested_c, e, sized_in, sym w ∙ e) (inr (refl, refl)) }
 
   text-tested : {t : Text} {n : ℕ} → TextIn t n room → JoinedIs key P room (sized_in (some (scalar (string t))) (rules.text t)) (tested_c (text_join n))
   unfolding within_c within_size
@@ -80,7 +80,7 @@ module _ {key : ℕ → Text} {P : Held → Type 0} {room : List ℕ} where
 
 -- a join stays as it is: it was tested
 stays : {key : ℕ → Text} {P : Held → Type 0} {a : List ℕ} {j : Join} (v : Value) (J : rules.Join) → within_size v ≡ true → JoinIn key P j a J
-    → JoinedIs key P a (sized_in (some v) J) (Joined.So j)
+    → JoinedIs key P a (sized_in (some v) J) (Ok j)
 unfolding sized_in
 stays v J e h = record { is = (J, rw (sized_in, e), h) }
 
@@ -130,10 +130,10 @@ module _ {key : ℕ → Text} {P : Held → Type 0} {T X : List ℕ} {i place : 
     text-joined (rules.text t) h = let (k, y, q, d, m) = h.is in rw (text_c, l, k) (text-tested (longer at whole (put (rw k)) y))
     text-joined (rules.joined_array vs) h =
         let k = h.is.0.kind in
-        record { is = rw (text_c, l, k) (ap (λ (p : ℕ). refused (placed 11 p)) (sym at.place)) }
+        record { is = rw (text_c, l, k) (inl (ap (λ (p : ℕ). refused (placed 11 p)) (sym at.place), refl)) }
     text-joined (rules.joined_object ms) h =
         let k = h.is.0 in
-        record { is = rw (text_c, l, k) (ap (λ (p : ℕ). refused (placed 11 p)) (sym at.place)) }
+        record { is = rw (text_c, l, k) (inl (ap (λ (p : ℕ). refused (placed 11 p)) (sym at.place), refl)) }
 
   pub text-is : (J : rules.Join) → JoinIn key P j b J
       → (length (scalar_text x) ≤ max_text → takes_text j.kind ≡ true → TextPut T X i (scalar_text x) (text_of j) b a)
@@ -143,7 +143,7 @@ module _ {key : ℕ → Text} {P : Held → Type 0} {T X : List ℕ} {i place : 
     where
       go : (t : Bool) → leb (length (scalar_text x)) max_text ≡ t → JoinedIs key P a (join_piece_in place gap (some (scalar x)) J) (text_c T i (length (scalar_text x)) j)
       go true e = rw (piece-small place gap (scalar x) J (scalar-within x ∙ e)) (text-joined e (put (leb-true (length (scalar_text x)) max_text e)) J h)
-      go false e = record { is = rw (text_c, e) (piece-large place gap (scalar x) J (scalar-within x ∙ e)) }
+      go false e = record { is = rw (text_c, e) (inr (piece-large place gap (scalar x) J (scalar-within x ∙ e), refl)) }
 
 -- ---- an array
 
@@ -169,7 +169,7 @@ module _ {key : ℕ → Text} {P : Held → Type 0} (joins : (vs ws : Helds) →
       }))
   members-joined (rules.text t) h m u d =
       let k = h.is.0 in
-      record { is = rw k (ap (λ (p : ℕ). refused (placed 11 p)) (sym at.place)) }
+      record { is = rw k (inl (ap (λ (p : ℕ). refused (placed 11 p)) (sym at.place), refl)) }
   members-joined (rules.joined_array vs) h m u d =
       let (y, l) = h.is in
       let k = y.kind in
@@ -188,7 +188,7 @@ module _ {key : ℕ → Text} {P : Held → Type 0} (joins : (vs ws : Helds) →
       }))
   members-joined (rules.joined_object ms) h m u d =
       let k = h.is.0 in
-      record { is = rw k (ap (λ (p : ℕ). refused (placed 11 p)) (sym at.place)) }
+      record { is = rw k (inl (ap (λ (p : ℕ). refused (placed 11 p)) (sym at.place), refl)) }
 
   pub members-is : (J : rules.Join) → JoinIn key P j b J → MembersIn key P ws (start_of j) n r b a
       → JoinedIs key P a (join_piece_in place gap (some (array_of ws)) J) (members_c T i j (start_of j) n r)
@@ -203,4 +203,4 @@ module _ {key : ℕ → Text} {P : Held → Type 0} (joins : (vs ws : Helds) →
           (members-joined J h m (members-written m p q e) (members-deep m p q e))
       go false e =
           let (p, q) = start-records J h in
-          record { is = rw (members_c, e) (piece-large place gap (array_of ws) J (sym (members-within m p q) ∙ e)) }
+          record { is = rw (members_c, e) (inr (piece-large place gap (array_of ws) J (sym (members-within m p q) ∙ e), refl)) }

@@ -1,6 +1,6 @@
 -- What stands in the room for a join, and what the code's answers say in the rules' terms. P is what the caller knows of the values in the
 -- room, of their keys above all.
-use Rattle.std.specs.Prelude.{◌≡◌, refl, ℕ, suc, ◌+◌, ◌*◌, ◌-◌, ◌≤◌, Bool, true, false, List, [], ◌++◌, length, get_or, take, leb}
+use Rattle.std.specs.Prelude.{◌≡◌, refl, ℕ, suc, ◌+◌, ◌*◌, ◌-◌, ◌≤◌, Bool, true, false, List, [], ◌++◌, length, get_or, take, leb, ◌⊎◌, Ok, Err}
 use Rattle.std.proofs.Math.Path.{ap}
 use Rattle.std.proofs.Common.{◌∙◌, length-append, length-drop, le-leb, leb-true, leb-false}
 use native.Mathlib.Omega.{arith}
@@ -12,6 +12,7 @@ use Rattle.rules.specs.Refusals.{placed, nowhere}
 use Rattle.rules.specs.Values.{array_of, object_of, Values, nesting_of, deepest_value, record_size, value_record_sizes, text_size, value_text_sizes, within_size}
 use Rattle.rules.specs.Settled.{Given}
 use Rattle.rules.specs.Unresolved as rules
+use Rattle.text_chars.specs.declared.Refusal.{Refusal}
 use Rattle.doc_items.specs.Holds.{TextAt}
 use Rattle.doc_items.specs.Parts.{numbers, letters}
 use Rattle.sheet_kept.specs.Kept.{Held, listed, Helds, named, named_all, count_helds}
@@ -25,11 +26,10 @@ use Rattle.eval_results.specs.Sizes.Contracts.{within_c}
 use Rattle.eval_results.specs.Extents.Members.{CameAll}
 use Rattle.eval_results.specs.Sizes.Answers.{ValueIn, within-nesting, within-records, within-texts}
 use Rattle.eval_results.specs.declared.extents.Extent.{Extent}
-use Rattle.eval_concat.specs.Model.{records_of, text_of, start_of, piece_c}
+use Rattle.eval_concat.specs.Model.{Joined, too_large_c, records_of, text_of, start_of, piece_c}
 use Rattle.eval_concat.specs.Helds.{all-records, all-texts}
 use Rattle.eval_concat.specs.declared.Kind.{Kind}
 use Rattle.eval_concat.specs.declared.Join.{Join}
-use Rattle.eval_concat.specs.declared.Joined.{Joined}
 
 -- ---- texts at the start of the room for texts
 
@@ -70,6 +70,10 @@ piece-at {T} {X} l p t = record { place = p; size = t.size; text = word-is X l t
 
 -- ---- joins
 
+-- document 01's numbers: mixed kinds at a place, a size at none
+abbrev pub JoinRefused : Given rules.Join → Refusal → Type 0
+JoinRefused g e = (g ≡ refused (placed 11 e.place.0)) × (e.number ≡ 11) ⊎ (g ≡ refused (nowhere 13)) × (e ≡ too_large_c)
+
 module _ (key : ℕ → Text) (P : Held → Type 0) where
   -- so many elements behind the room for a head
   pub record ArrayIn (j : Join) (room : List ℕ) (vs : Values) : Type 0 where
@@ -92,11 +96,9 @@ module _ (key : ℕ → Text) (P : Held → Type 0) where
   pub record JoinIn (j : Join) (room : List ℕ) (J : rules.Join) : Type 0 where
     pub is : JoinCase j room J
 
-  -- document 01's numbers for each case of an answer
   abbrev pub JoinedCase : List ℕ → Given rules.Join → Joined → Type 0
-  JoinedCase room g (Joined.So j) = (J : rules.Join) × (g ≡ value J) × JoinIn j room J
-  JoinedCase room g (Joined.Mixed place) = g ≡ refused (placed 11 place.0)
-  JoinedCase room g Joined.TooLarge = g ≡ refused (nowhere 13)
+  JoinedCase room g (Ok j) = (J : rules.Join) × (g ≡ value J) × JoinIn j room J
+  JoinedCase room g (Err e) = JoinRefused g e
 
   pub record JoinedIs (room : List ℕ) (g : Given rules.Join) (r : Joined) : Type 0 where
     pub is : JoinedCase room g r

@@ -12,17 +12,17 @@ pub mod text;
 ghost use Rattle.std.specs.Prelude.{◌≡◌, ◌<◌};
 ghost use Rattle.doc_items.specs.Room.{number_bound};
 ghost use Rattle.eval_writer.specs.Clauses.{Room};
-ghost use Rattle.eval_concat.specs.Model.{mixed_at, tested_c, start_of};
+ghost use Rattle.eval_concat.specs.Model.{too_large_c, mixed_at, tested_c, start_of};
 ghost use Rattle.eval_concat.specs.Answers.{AnswerIs};
 ghost use Rattle.eval_concat.specs.Objects.{ObjectIs};
 
-use codes::kinds;
+use codes::{kinds, refusals};
 use doc_items::{COLUMN_PLACE, WIDTH, number_at};
 use eval_results::extents::{Extent, length_inside};
 use eval_results::sizes::{Answered, is_within};
 use eval_writer::{Out, put_head, put_record};
 use sheet_forms::HEAD;
-use text_chars::{DocAt, RecAt, TextAt};
+use text_chars::{DocAt, RecAt, Refusal, TextAt};
 
 /// What the pieces so far have come to.
 #[derive(Clone, Copy)]
@@ -44,47 +44,37 @@ pub struct Join {
     pub extent: Extent,
 }
 
-/// The join with one piece more.
-#[derive(Clone, Copy)]
-pub enum Joined {
-    So(Join),
-    // kinds are mixed: refusal 11 at the piece
-    Mixed(DocAt),
-    // the piece or the join is over its size: refusal 13
-    TooLarge,
-}
-
-/// The join with an object more.
-#[derive(Clone, Copy)]
-pub enum ObjectJoined {
-    So(Join),
-    // the join is an object too: the two merge
-    Merge,
-    // kinds are mixed: refusal 11 at the piece
-    Mixed(DocAt),
-    // the piece is over its size: refusal 13
-    TooLarge,
-}
-
 // ---- decisions
 
-/// The size of the join so far.
-pub fn tested(j: Join) -> Joined
-    ensures { result ≡ tested_c j }
+/// The piece or the join is over its size.
+pub fn too_large() -> Refusal
+    ensures { result ≡ too_large_c }
 {
-    let b = j.extent;
-    if is_within(b) {
-        return Joined::So(j);
+    Refusal {
+        number: refusals::TOO_LARGE,
+        place: DocAt(0),
     }
-    Joined::TooLarge
 }
 
 /// The piece at item i is unlike the first defined one.
-pub fn mixed(table: &[u16], i: usize) -> Joined
+pub fn mixed(table: &[u16], i: usize) -> Refusal
     requires { i < number_bound }
     ensures { result ≡ mixed_at table.now i }
 {
-    Joined::Mixed(DocAt(number_at(table, WIDTH * i + COLUMN_PLACE)))
+    Refusal {
+        number: refusals::MIXED_KINDS,
+        place: DocAt(number_at(table, WIDTH * i + COLUMN_PLACE)),
+    }
+}
+
+/// The size of the join so far.
+pub fn tested(j: Join) -> Result<Join, Refusal>
+    ensures { result ≡ tested_c j }
+{
+    if is_within(j.extent) {
+        return Ok(j);
+    }
+    Err(too_large())
 }
 
 // ---- arrays
@@ -93,15 +83,12 @@ pub fn mixed(table: &[u16], i: usize) -> Joined
 pub fn array_start(j: Join) -> Out
     ensures { result ≡ start_of j }
 {
-    let b = j.extent;
-    let o = b.out;
     let first = Out {
         rec: RecAt(HEAD),
         text: TextAt(0),
     };
-    let kind = j.kind;
-    match kind {
-        Kind::Array { count } => o,
+    match j.kind {
+        Kind::Array { count } => j.extent.out,
         Kind::Blank => first,
         Kind::Simple => first,
         Kind::Object => first,
@@ -110,25 +97,23 @@ pub fn array_start(j: Join) -> Out
 
 // ---- objects
 
-/// An object that was written into the room: its size, then its kind.
-pub fn join_object(table: &[u16], j: Join, piece: Extent, i: usize) -> ObjectJoined
+/// An object that was written into the room: its size, then its kind. None where the join is an object too: the two merge.
+pub fn join_object(table: &[u16], j: Join, piece: Extent, i: usize) -> Result<Option<Join>, Refusal>
     requires { i < number_bound }
     ensures { ObjectIs table.now i j piece result }
 {
-    if is_within(piece) {
-        let place = number_at(table, WIDTH * i + COLUMN_PLACE);
-        let kind = j.kind;
-        return match kind {
-            Kind::Simple => ObjectJoined::Mixed(DocAt(place)),
-            Kind::Array { count } => ObjectJoined::Mixed(DocAt(place)),
-            Kind::Blank => ObjectJoined::So(Join {
-                kind: Kind::Object,
-                extent: piece,
-            }),
-            Kind::Object => ObjectJoined::Merge,
-        };
+    if !is_within(piece) {
+        return Err(too_large());
     }
-    ObjectJoined::TooLarge
+    match j.kind {
+        Kind::Simple => Err(mixed(table, i)),
+        Kind::Array { count } => Err(mixed(table, i)),
+        Kind::Blank => Ok(Some(Join {
+            kind: Kind::Object,
+            extent: piece,
+        })),
+        Kind::Object => Ok(None),
+    }
 }
 
 // ---- the end
@@ -139,10 +124,7 @@ pub fn join_answer(room: &mut [u8], j: Join) -> Answered
     ensures { AnswerIs j room.old room.new result }
 {
     let b = j.extent;
-    let o = b.out;
-    let text = o.text;
-    let kind = j.kind;
-    match kind {
+    match j.kind {
         Kind::Blank => Answered::Undefined,
         Kind::Object => Answered::Value(b),
         Kind::Array { count } => {
@@ -150,11 +132,11 @@ pub fn join_answer(room: &mut [u8], j: Join) -> Answered
                 rec: RecAt(0),
                 text: TextAt(0),
             };
-            put_head(room, RecAt(0), kinds::ARRAY, length_inside(first, o));
+            put_head(room, RecAt(0), kinds::ARRAY, length_inside(first, b.out));
             Answered::Value(b)
         }
         Kind::Simple => {
-            put_record(room, RecAt(0), kinds::STRING, 0, text.0);
+            put_record(room, RecAt(0), kinds::STRING, 0, b.out.text.0);
             Answered::Value(b)
         }
     }

@@ -8,13 +8,13 @@ ghost use Rattle.eval_concat.specs.Model.{text_of};
 ghost use Rattle.eval_concat.specs.Clauses.{GapAsked};
 ghost use Rattle.eval_concat.specs.Scalar.Contracts.{WordJoinedIs, ItemJoinedIs, RecordJoinedIs};
 
+use crate::Join;
 use crate::text::join_text;
-use crate::{Join, Joined};
 use codes::kinds;
 use doc_items::{COLUMN_TEXT, COLUMN_TEXTLEN, WIDTH, number_at};
 use eval_writer::Source;
 use sheet_forms::{kind_at, pair_at};
-use text_chars::{RecAt, TextAt, TextLen};
+use text_chars::{RecAt, Refusal, TextAt, TextLen};
 
 // The text at a place of a job's bytes; one that does not lie in them is empty.
 fn join_word(
@@ -25,7 +25,7 @@ fn join_word(
     len: TextLen,
     j: Join,
     i: usize,
-) -> Joined
+) -> Result<Join, Refusal>
     requires { GapAsked room.old (text_of j) i × Near at.0 × (len.0 ≤ longest_text) }
     ensures { WordJoinedIs table.now bytes.now i at.0 len.0 j room.old room.new result }
 {
@@ -45,7 +45,7 @@ pub fn join_item(
     c: usize,
     j: Join,
     i: usize,
-) -> Joined
+) -> Result<Join, Refusal>
     requires { GapAsked room.old (text_of j) i × (c < number_bound) }
     ensures { ItemJoinedIs table.now bytes.now i c j room.old room.new result }
 {
@@ -63,14 +63,12 @@ pub fn join_record(
     at: RecAt,
     j: Join,
     i: usize,
-) -> Joined
+) -> Result<Join, Refusal>
     requires { GapAsked room.old (text_of j) i × (src.rec.0 + at.0 ≤ most_bytes) × (src.text.0 ≤ most_bytes) }
     ensures { RecordJoinedIs table.now bytes.now i src.text.0 (src.rec.0 + at.0) j
         room.old room.new result }
 {
-    let rec = src.rec;
-    let texts = src.text;
-    let p = rec.0 + at.0;
+    let p = src.rec.0 + at.0;
     let kind = kind_at(bytes, RecAt(p));
     if kind == kinds::NULL {
         return join_text(room, table, bytes, b"null", j, i);
@@ -87,7 +85,7 @@ pub fn join_record(
         room,
         table,
         bytes,
-        TextAt(texts.0 + from),
+        TextAt(src.text.0 + from),
         TextLen(len),
         j,
         i,

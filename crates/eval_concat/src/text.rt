@@ -5,13 +5,13 @@ ghost use Rattle.rules.specs.Sizes.{max_text};
 ghost use Rattle.eval_concat.specs.Model.{text_of};
 ghost use Rattle.eval_concat.specs.Clauses.{GapAsked, GapIs, AddedIs, TextJoinedIs, NothingIs};
 
-use crate::{Join, Joined, Kind, mixed, tested};
+use crate::{Join, Kind, mixed, tested, too_large};
 use codes::limits;
 use doc_items::{COLUMN_KEY, COLUMN_KEYLEN, WIDTH, number_at};
 use eval_results::extents::Extent;
 use eval_writer::{Out, put_text};
 use sheet_forms::WORD;
-use text_chars::{RecAt, TextAt, TextLen};
+use text_chars::{RecAt, Refusal, TextAt, TextLen};
 
 // The whitespace before the piece at item i, behind the text so far; where it ends.
 fn join_gap(room: &mut [u8], table: &[u16], texts: &[u8], to: TextAt, i: usize) -> TextAt
@@ -20,9 +20,8 @@ fn join_gap(room: &mut [u8], table: &[u16], texts: &[u8], to: TextAt, i: usize) 
 {
     let at = number_at(table, WIDTH * i + COLUMN_KEY);
     let n = number_at(table, WIDTH * i + COLUMN_KEYLEN);
-    let t = to.0;
     put_text(room, to, texts, TextAt(at), TextLen(n));
-    TextAt(t + n)
+    TextAt(to.0 + n)
 }
 
 // A text that is within its size, with the whitespace before it.
@@ -33,12 +32,11 @@ fn add_text(
     text: &[u8],
     to: TextAt,
     i: usize,
-) -> Joined
+) -> Result<Join, Refusal>
     requires { GapAsked room.old to.0 i × (length text.now ≤ max_text) }
     ensures { AddedIs table.now texts.now i text.now to.0 room.old room.new result }
 {
     let end = join_gap(room, table, texts, to, i);
-    let e = end.0;
     let n = text.len();
     put_text(room, end, text, TextAt(0), TextLen(n));
     tested(Join {
@@ -46,7 +44,7 @@ fn add_text(
         extent: Extent {
             out: Out {
                 rec: RecAt(WORD),
-                text: TextAt(e + n),
+                text: TextAt(end.0 + n),
             },
             deep: 0,
         },
@@ -61,40 +59,40 @@ pub fn join_text(
     text: &[u8],
     j: Join,
     i: usize,
-) -> Joined
+) -> Result<Join, Refusal>
     requires { GapAsked room.old (text_of j) i }
     ensures { TextJoinedIs table.now texts.now i text.now j room.old room.new result }
 {
     if limits::TEXT < text.len() {
-        return Joined::TooLarge;
+        return Err(too_large());
     }
-    let b = j.extent;
-    let o = b.out;
-    let to = o.text;
-    let kind = j.kind;
-    match kind {
-        Kind::Array { count } => mixed(table, i),
-        Kind::Object => mixed(table, i),
+    let to = j.extent.out.text;
+    match j.kind {
+        Kind::Array { count } => Err(mixed(table, i)),
+        Kind::Object => Err(mixed(table, i)),
         Kind::Blank => add_text(room, table, texts, text, to, i),
         Kind::Simple => add_text(room, table, texts, text, to, i),
     }
 }
 
 /// A piece that is undefined: of a text the whitespace before it stays.
-pub fn join_nothing(room: &mut [u8], table: &[u16], texts: &[u8], j: Join, i: usize) -> Joined
+pub fn join_nothing(
+    room: &mut [u8],
+    table: &[u16],
+    texts: &[u8],
+    j: Join,
+    i: usize,
+) -> Result<Join, Refusal>
     requires { GapAsked room.old (text_of j) i }
     ensures { NothingIs table.now texts.now i j room.old room.new result }
 {
-    let b = j.extent;
-    let o = b.out;
-    let to = o.text;
-    let kind = j.kind;
-    match kind {
-        Kind::Array { count } => Joined::So(j),
-        Kind::Object => Joined::So(j),
+    let to = j.extent.out.text;
+    match j.kind {
+        Kind::Array { count } => Ok(j),
+        Kind::Object => Ok(j),
         Kind::Blank => {
             let end = join_gap(room, table, texts, to, i);
-            Joined::So(Join {
+            Ok(Join {
                 kind: Kind::Blank,
                 extent: Extent {
                     out: Out {

@@ -3,15 +3,15 @@ use mathlib.Core.Path.{◌≡◌, refl, sym, ap, ◌∙◌}
 use Prim.Native.Nat.{ℕ, ◌+◌, ◌*◌, ◌-◌, ◌%◌, ◌≤◌, ◌<◌}
 use mathlib.Core.Bool.{Bool, true, false}
 use mathlib.Core.List.{List}
+use Rattle.std.specs.Prelude.{Ok, Err}
 use mathlib.Core.Logic.{inl, inr}
 use native.Mathlib.Omega.{arith}
-use lib.Dec.{eqb, leb}
+use lib.Dec.{eqb}
 use lib.ListN.{length, get_or}
-use borrow.Author.Tests.{leb-true, leb-false}
 use Rattle.answers.specs.Ask.{Trail, lookup, then}
 use Rattle.answers.specs.Theory.Sound.{clash}
 use Rattle.rules.specs.Bytes.{Text}
-use Rattle.rules.specs.Sizes.{max_records, max_room}
+use Rattle.rules.specs.Sizes.{max_room}
 use Rattle.rules.specs.Tree.{simple, array, object, unresolved}
 use Rattle.rules.specs.Values.{Answer, scalar, array_of, object_of}
 use Rattle.rules.specs.Layers.{Layer, written, settled}
@@ -19,6 +19,7 @@ use Rattle.rules.specs.Settled.{Given, layer_in, node_in, value_in}
 use Rattle.rules.specs.Unresolved as rules
 use Rattle.rules.specs.Documents.{Setting}
 use Rattle.theory.specs.SettledAnswers.{join_piece_in}
+use Rattle.text_chars.specs.declared.Refusal.{Refusal}
 use Rattle.doc_items.specs.Codes.{as_piece}
 use Rattle.doc_items.specs.Room.{capacity, sheet_at, trail_at, text_room}
 use Rattle.doc_items.specs.Writing.{ReadIs}
@@ -34,10 +35,9 @@ use Rattle.eval_memory.specs.Tables.{Number, item-low}
 use Rattle.eval_concat_arrays.specs.Elements.Contracts.{ArrayAsked, ArrayIs}
 use Rattle.eval_concat.specs.Clauses.{MembersAsked, MembersJoinedIs}
 use Rattle.eval_concat.specs.Growth.{below-kind}
-use Rattle.eval_concat.specs.Model.{start_of, start_by}
+use Rattle.eval_concat.specs.Model.{Joined, too_large_c, start_of, start_by}
 use Rattle.eval_concat.specs.declared.Kind.{Kind}
 use Rattle.eval_concat.specs.declared.Join.{Join}
-use Rattle.eval_concat.specs.declared.Joined.{Joined}
 use Rattle.eval_concat.specs.Scalar.Contracts.{ItemJoinedIs, RecordJoinedIs, record_text}
 use Rattle.eval_concat.specs.Scalar.Texts.{item-text}
 use Rattle.eval_results.specs.Sizes.Answers.{within-records, within-texts}
@@ -46,7 +46,7 @@ use Rattle.eval_state.specs.State.{State}
 use Rattle.eval_value_laws.specs.Clauses.{LayerGiven}
 use Rattle.eval_value_laws.specs.Counting.{NoObject}
 use Rattle.eval_pieces.specs.Clauses.{OneOf, levels}
-use Rattle.eval_concat.specs.Steps.Contracts.{StepOfIs, TestedKind, JoinAsked, Good, StepGiven, StepCase}
+use Rattle.eval_concat.specs.Steps.Contracts.{Stepped, step_of, StepOfIs, TestedKind, JoinAsked, Good, StepGiven, StepCase}
 use Rattle.eval_concat.specs.declared.steps.JoinStep.{JoinStep}
 use Rattle.eval_concat_arrays.specs.Clauses.{RecordAtIs, ArrayTold, JoinableIs, ElementsAsked, ElementsJoinedIs, SimpleIs}
 use Rattle.eval_concat_arrays.specs.Clauses.{ArrayJoinedIs, OneJoinedIs}
@@ -76,32 +76,24 @@ module _ {T B : List ℕ} {c : ℕ} where
 
 pub ruleset telling = (told-item, told-record)
 
-module _ {from : Out} {n : ℕ} {e : Extent} where
-  pub before-records : e.out.rec.0 < from.rec.0 → JoinableIs from n e false
-  before-records l = record { yes = λ z. clash (cc (z)); no = λ z k m. absurd (omega arith) }
-
-  pub before-texts : e.out.text.0 < from.text.0 → JoinableIs from n e false
-  before-texts l = record { yes = λ z. clash (cc (z)); no = λ z k m. absurd (omega arith) }
-
-  pub in_order : from.rec.0 ≤ e.out.rec.0 → from.text.0 ≤ e.out.text.0 → JoinableIs from n e (leb n max_records)
-  in_order k m = record { yes = λ z. record { rec = k; text = m; few = leb-true n max_records z }; no = λ z p q. leb-false n max_records z }
-
-pub ruleset ordering = (before-records, before-texts, in_order)
-
 -- ---- elements
 
 module _ {T : List ℕ} {i : ℕ} {j : Join} {from : Out} {made : Made} where
-  pub elements-need : {b : ℕ} → made ≡ Made.Needs b → ElementsJoinedIs T i j from made (JoinStep.Needs b)
+  pub elements-need : {b : ℕ} → made ≡ Made.Needs b → ElementsJoinedIs T i j from made (Ok (JoinStep.Needs b))
   elements-need e = record { is = rw e refl }
 
   module _ {n : ℕ} {x : Extent} {f : Bool} (e : made ≡ Made.Done n x) (o : JoinableIs from n x f) where
-    pub elements-so : {q : Joined} {r : JoinStep} → f ≡ true → MembersJoinedIs T i j from n x q → StepOfIs q r → ElementsJoinedIs T i j from made r
-    elements-so {q} z m s = record { is = rw e (q, s.is, inl (m, (o.yes z).few)) }
+    module _ {q : Joined} (z : f ≡ true) (m : MembersJoinedIs T i j from n x q) where
+      pub elements-so : {k : Join} → q ≡ Ok k → ElementsJoinedIs T i j from made (Ok (JoinStep.So k))
+      elements-so h = record { is = rw e (q, sym (ap step_of h), inl (m, (o.yes z).few)) }
 
-    pub elements-many : f ≡ false → ElementsJoinedIs T i j from made (JoinStep.Refused 13 (record { 0 = 0 }))
-    elements-many z = record { is = rw e (Joined.TooLarge, refl, inr (refl, o.no z)) }
+      pub elements-refused : {p : Refusal} → q ≡ Err p → ElementsJoinedIs T i j from made (Err p)
+      elements-refused h = record { is = rw e (q, sym (ap step_of h), inl (m, (o.yes z).few)) }
 
-pub ruleset elements = (elements-need, elements-so, elements-many)
+    pub elements-many : {q : Refusal} → f ≡ false → q ≡ too_large_c → ElementsJoinedIs T i j from made (Err q)
+    elements-many {q} z h = record { is = rw e (Err q, refl, inr (ap Err h, o.no z)) }
+
+pub ruleset elements = (elements-need, elements-so, elements-refused, elements-many)
 
 pub members-asked : {i : ℕ} {j : Join} {from : Out} {made : Made} {n : ℕ} {x : Extent} {f : Bool} → made ≡ Made.Done n x → JoinableIs from n x f → f ≡ true
     → ElementsAsked made i j → MembersAsked j from n x i
@@ -139,7 +131,7 @@ module _ {B w b : List ℕ} {base i : ℕ} {j : Join} (A : JoinAsked B w b base 
   pub elements-asked : {T : List ℕ} {top c : ℕ} {from : Out} {w' a : List ℕ} {made : Made} → ArrayIs T B top c from w w' made b a → ElementsAsked made i j
   elements-asked f = record { within = f.within; steady = A.steady; item = A.item }
 
-  module _ {T : List ℕ} {top c : ℕ} {from : Out} {w' a : List ℕ} {made : Made} {r : JoinStep} (l : base ≤ top) (s : from ≡ start_of j)
+  module _ {T : List ℕ} {top c : ℕ} {from : Out} {w' a : List ℕ} {made : Made} {r : Stepped} (l : base ≤ top) (s : from ≡ start_of j)
       (f : ArrayIs T B top c from w w' made b a) (k : length a ≡ length b) (E : ElementsJoinedIs T i j from made r) where
     pub array-joined : ArrayJoinedIs T base i top c j w w' B b a r
     array-joined = record {
@@ -182,7 +174,7 @@ pub ruleset simples = (item-joined, record-joined)
 
 -- ---- either
 
-module _ {T B : List ℕ} {c : ℕ} {f : Bool} (t : ArrayTold T B c f) {base i top : ℕ} {j : Join} {w b a : List ℕ} {r : JoinStep} where
+module _ {T B : List ℕ} {c : ℕ} {f : Bool} (t : ArrayTold T B c f) {base i top : ℕ} {j : Join} {w b a : List ℕ} {r : Stepped} where
   pub one-array : {w' : List ℕ} → f ≡ true → ArrayJoinedIs T base i top c j w w' B b a r → OneJoinedIs T base i top c j w w' B b a r
   one-array z u =
       let s = u.step in
@@ -204,7 +196,7 @@ module _ {T B : List ℕ} {c : ℕ} {f : Bool} (t : ArrayTold T B c f) {base i t
         };
       }
 
-  pub one-simple : {q : Joined} → JoinAsked B w b base i j → f ≡ false → SimpleIs T B i c j b a q → StepOfIs q r → length a ≡ length b
+  one-simple : {q : Joined} → JoinAsked B w b base i j → f ≡ false → SimpleIs T B i c j b a q → StepOfIs q r → length a ≡ length b
       → OneJoinedIs T base i top c j w w B b a r
   unfolding layer_in node_in
   one-simple {q} A z m s k = record {
@@ -232,4 +224,12 @@ module _ {T B : List ℕ} {c : ℕ} {f : Bool} (t : ArrayTold T B c f) {base i t
       go x key items S place gap J g G C (settled (array_of vs)) p h e = clash (cc (z, array_told t items (settled (array_of vs)) p h))
       go x key items S place gap J g G C (settled (object_of ms)) p h e = absurd p
 
-pub ruleset ones = (one-array, one-simple)
+module _ {T B : List ℕ} {c : ℕ} {f : Bool} (t : ArrayTold T B c f) {base i top : ℕ} {j : Join} {w b a : List ℕ} (A : JoinAsked B w b base i j)
+    (z : f ≡ false) {q : Joined} (m : SimpleIs T B i c j b a q) (l : length a ≡ length b) where
+  pub one-so : {k : Join} → q ≡ Ok k → OneJoinedIs T base i top c j w w B b a (Ok (JoinStep.So k))
+  one-so e = one-simple t A z m (record { is = sym (ap step_of e) }) l
+
+  pub one-refused : {e : Refusal} → q ≡ Err e → OneJoinedIs T base i top c j w w B b a (Err e)
+  one-refused e = one-simple t A z m (record { is = sym (ap step_of e) }) l
+
+pub ruleset ones = (one-array, one-so, one-refused)

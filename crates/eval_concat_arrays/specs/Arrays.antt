@@ -1,5 +1,5 @@
 -- An array's elements, joined in the room as the rules join them.
-use Rattle.std.specs.Prelude.{◌≡◌, refl, ℕ, ◌+◌, ◌<◌, Bool, false, ◌&&◌, List, leb}
+use Rattle.std.specs.Prelude.{◌≡◌, refl, ℕ, ◌+◌, ◌<◌, Bool, false, ◌&&◌, List, leb, Ok, Err}
 use Rattle.std.proofs.Common.{sym, ◌∙◌, inl, inr, arith}
 use Rattle.std.proofs.Math.Bool.{true}
 use Rattle.std.proofs.Math.Option.{some}
@@ -29,23 +29,22 @@ use Rattle.eval_results.specs.declared.values.Made.{Made}
 use Rattle.eval_concat_arrays.specs.Elements.Contracts.{ArrayIs}
 use Rattle.eval_concat.specs.Growth.{Below}
 use Rattle.eval_concat.specs.Helds.{join_helds}
-use Rattle.eval_concat.specs.Model.{start_of}
+use Rattle.eval_concat.specs.Model.{too_large_c, start_of}
 use Rattle.eval_concat.specs.Pieces.{piece-large, members-is}
 use Rattle.eval_concat.specs.Standing.{MembersIn, start-records}
 use Rattle.eval_concat.specs.declared.Join.{Join}
-use Rattle.eval_concat.specs.declared.Joined.{Joined}
 use Rattle.eval_state.specs.Memories.{answers_of}
 use Rattle.eval_state.specs.State.{State}
 use Rattle.eval_value_laws.specs.Clauses.{LayerGiven}
 use Rattle.eval_pieces.specs.Clauses.{levels}
-use Rattle.eval_concat.specs.Steps.Contracts.{Steady, Good, StepGiven, StepCase}
+use Rattle.eval_concat.specs.Steps.Contracts.{Stepped, Steady, Good, StepGiven, StepCase}
 use Rattle.eval_concat.specs.declared.steps.JoinStep.{JoinStep}
 use Rattle.eval_concat_arrays.specs.Clauses.{is_array, ArrayOf, ElementsJoinedBy, ElementsJoinedIs}
 use Rattle.eval_concat_arrays.specs.Steps.{defined-step, missing-step, members-grows}
 
 -- ---- how far counters go
 
-pub elements-grow : {T : List ℕ} {i : ℕ} {j : Join} {from : Out} {made : Made} {r : JoinStep} → ElementsJoinedIs T i j from made r → (k : Join) → r ≡ JoinStep.So k
+pub elements-grow : {T : List ℕ} {i : ℕ} {j : Join} {from : Out} {made : Made} {r : Stepped} → ElementsJoinedIs T i j from made r → (k : Join) → r ≡ Ok (JoinStep.So k)
     → (t c : ℕ) → Below t c j → Steady (t + number_bound) (c + far) k
 elements-grow {T} {i} {j} {from} {made} {r} E k e t c h = go made E.is
   where
@@ -78,7 +77,7 @@ joined-keys P (also v vs) ws a b = (a.0, joined-keys P vs ws a.1 b)
 
 module _ {x : Setting} {key : ℕ → Text} {items : ℕ} {T B : List ℕ} {S : Trail Answer} {base i place : ℕ} {gap : Text} {j : Join} {b : List ℕ} {J : rules.Join}
     {g : Given Answer} (G : StepGiven x key items T B S base i place gap j b J g) (whole : Room b) {a : List ℕ} where
-  elements-made : (r : JoinStep) (gs : Given Values) (made : Made) → g ≡ then gs (λ vs. value (some (array_of vs)))
+  elements-made : (r : Stepped) (gs : Given Values) (made : Made) → g ≡ then gs (λ vs. value (some (array_of vs)))
       → ElementsCome key (KeyNumber T (items + 1)) gs (start_of j) made b a → ElementsJoinedBy T i j (start_of j) r made
       → State x key items T B S × StepCase key (Good T items) a (then g (λ v. join_piece_in place gap v J)) r
   elements-made r gs (Made.Needs n) e c z =
@@ -100,10 +99,10 @@ module _ {x : Setting} {key : ℕ → Text} {items : ℕ} {T B : List ℕ} {S : 
       let o = t.came.text in
       let v = t.counted in
       let w = l (omega arith) (omega arith) in
-      rw (z, y) (defined-step G a (array_of (named_all key t.helds)) Joined.TooLarge f
-      (record { is = piece-large place gap (array_of (named_all key t.helds)) J (many-large key t.helds (omega arith)) }))
+      rw (z, y) (defined-step G a (array_of (named_all key t.helds)) (Err too_large_c) f
+      (record { is = inr (piece-large place gap (array_of (named_all key t.helds)) J (many-large key t.helds (omega arith)), refl) }))
 
-  pub elements-step : {top c : ℕ} {w w' : List ℕ} {made : Made} {r : JoinStep} → ArrayIs T B top c (start_of j) w w' made b a → ElementsJoinedIs T i j (start_of j) made r
+  pub elements-step : {top c : ℕ} {w w' : List ℕ} {made : Made} {r : Stepped} → ArrayIs T B top c (start_of j) w w' made b a → ElementsJoinedIs T i j (start_of j) made r
       → ArrayOf (answers_of key items T B) (lookup S) top c g
       → State x key items T B S × StepCase key (Good T items) a (then g (λ v. join_piece_in place gap v J)) r
   unfolding layer_in node_in

@@ -1,5 +1,5 @@
 -- What the functions ask and promise.
-use Rattle.std.specs.Prelude.{◌≡◌, ℕ, ◌+◌, ◌*◌, ◌%◌, ◌≤◌, ◌<◌, Bool, true, false, List, ◌⊎◌, eqb, get_or}
+use Rattle.std.specs.Prelude.{◌≡◌, ℕ, ◌+◌, ◌*◌, ◌%◌, ◌≤◌, ◌<◌, Bool, true, false, List, ◌⊎◌, eqb, get_or, Ok, Err}
 use Rattle.std.proofs.Math.Option.{Option}
 use Rattle.rules.specs.Bytes.{Text}
 use Rattle.rules.specs.Pieces.{scalar_text}
@@ -18,11 +18,11 @@ use Rattle.eval_results.specs.Values.Contracts.{MadeWithin}
 use Rattle.eval_results.specs.declared.values.Made.{Made}
 use Rattle.eval_concat.specs.Clauses.{farthest, most_count, TextJoinedIs, MembersJoinedIs}
 use Rattle.eval_concat.specs.declared.Join.{Join}
-use Rattle.eval_concat.specs.declared.Joined.{Joined}
+use Rattle.eval_concat.specs.Model.{Joined, too_large_c}
 use Rattle.eval_state.specs.Memories.{answers_of}
 use Rattle.eval_value_laws.specs.Clauses.{LayerGiven}
 use Rattle.eval_pieces.specs.Clauses.{OneOf, levels}
-use Rattle.eval_concat.specs.Steps.Contracts.{step_of, Steady, JoinStepIs}
+use Rattle.eval_concat.specs.Steps.Contracts.{Stepped, step_of, Steady, JoinStepIs}
 use Rattle.eval_concat.specs.declared.steps.JoinStep.{JoinStep}
 
 -- ---- decisions
@@ -71,13 +71,13 @@ pub record ElementsAsked (made : Made) (i : ℕ) (j : Join) : Type 0 where
   pub item : i < capacity
 
 -- they are joined, or there are too many
-abbrev pub ElementsJoinedBy : (T : List ℕ) (i : ℕ) (j : Join) (from : Out) (r : JoinStep) → Made → Type 0
-ElementsJoinedBy T i j from r (Made.Needs n) = r ≡ JoinStep.Needs n
+abbrev pub ElementsJoinedBy : (T : List ℕ) (i : ℕ) (j : Join) (from : Out) (r : Stepped) → Made → Type 0
+ElementsJoinedBy T i j from r (Made.Needs n) = r ≡ Ok (JoinStep.Needs n)
 ElementsJoinedBy T i j from r (Made.Done n e) =
     (q : Joined) × (r ≡ step_of q)
-    × ((MembersJoinedIs T i j from n e q × (n ≤ max_records)) ⊎ ((q ≡ Joined.TooLarge) × (from.rec.0 ≤ e.out.rec.0 → from.text.0 ≤ e.out.text.0 → max_records < n)))
+    × ((MembersJoinedIs T i j from n e q × (n ≤ max_records)) ⊎ ((q ≡ Err too_large_c) × (from.rec.0 ≤ e.out.rec.0 → from.text.0 ≤ e.out.text.0 → max_records < n)))
 
-pub record ElementsJoinedIs (T : List ℕ) (i : ℕ) (j : Join) (from : Out) (made : Made) (r : JoinStep) : Type 0 where
+pub record ElementsJoinedIs (T : List ℕ) (i : ℕ) (j : Join) (from : Out) (made : Made) (r : Stepped) : Type 0 where
   pub is : ElementsJoinedBy T i j from r made
 
 -- ---- simple values
@@ -93,8 +93,8 @@ pub record SimpleIs (T B : List ℕ) (i c : ℕ) (j : Join) (b a : List ℕ) (r 
 -- ---- either
 
 -- what joining a layer promises that is an array, and one that counts alone
-pub record ArrayJoinedIs (T : List ℕ) (base i top c : ℕ) (j : Join) (w w' B b a : List ℕ) (r : JoinStep) : Type 0 where
+pub record ArrayJoinedIs (T : List ℕ) (base i top c : ℕ) (j : Join) (w w' B b a : List ℕ) (r : Stepped) : Type 0 where
   pub step : JoinStepIs T base i j (λ M known g. ArrayOf M known top c g) w w' B B b a r
 
-pub record OneJoinedIs (T : List ℕ) (base i top c : ℕ) (j : Join) (w w' B b a : List ℕ) (r : JoinStep) : Type 0 where
+pub record OneJoinedIs (T : List ℕ) (base i top c : ℕ) (j : Join) (w w' B b a : List ℕ) (r : Stepped) : Type 0 where
   pub step : JoinStepIs T base i j (λ M known g. OneOf M known top c g) w w' B B b a r

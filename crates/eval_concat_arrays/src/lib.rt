@@ -13,17 +13,17 @@ ghost use Rattle.eval_stack.specs.Model.{entries};
 ghost use Rattle.eval_concat_arrays.specs.Clauses.{RecordAtIs, ArrayTold, JoinableIs, ElementsAsked, ElementsJoinedIs, SimpleIs, ArrayJoinedIs, OneJoinedIs};
 
 use crate::elements::array_elements;
-use codes::{kinds, limits, refusals};
+use codes::{kinds, limits};
 use doc_items::{CAPACITY, PIECE, WIDTH, number_at};
 use eval_concat::array::join_members;
 use eval_concat::scalar::{join_item, join_record};
-use eval_concat::steps::{JoinStep, step_of};
-use eval_concat::{Join, Joined, array_start};
+use eval_concat::steps::JoinStep;
+use eval_concat::{Join, array_start, too_large};
 use eval_results::extents::Extent;
 use eval_results::values::Made;
 use eval_writer::{Out, Source};
 use sheet_forms::kind_at;
-use text_chars::{DocAt, RecAt, TextAt};
+use text_chars::{RecAt, Refusal, TextAt};
 
 // ---- decisions
 
@@ -54,37 +54,30 @@ fn is_array(table: &[u16], bytes: &[u8], layer: usize) -> bool
 fn is_joinable(from: Out, count: usize, end: Extent) -> bool
     ensures { JoinableIs from count end result }
 {
-    let rec = from.rec;
-    let text = from.text;
-    let out = end.out;
-    let last = out.rec;
-    let texts = out.text;
-    if last.0 < rec.0 {
-        return false;
-    }
-    if texts.0 < text.0 {
-        return false;
-    }
-    count <= limits::RECORDS
+    from.rec.0 <= end.out.rec.0 && from.text.0 <= end.out.text.0 && count <= limits::RECORDS
 }
 
 // ---- arrays
 
 // The elements of an array, written from one place on, behind the join. More of them than a value has room for are over its size.
-fn join_elements(table: &[u16], from: Out, made: Made, j: Join, i: usize) -> JoinStep
+fn join_elements(
+    table: &[u16],
+    from: Out,
+    made: Made,
+    j: Join,
+    i: usize,
+) -> Result<JoinStep, Refusal>
     requires { ElementsAsked made i j }
     ensures { ElementsJoinedIs table.now i j from made result }
 {
     match made {
-        Made::Needs(b) => JoinStep::Needs(b),
+        Made::Needs(b) => Ok(JoinStep::Needs(b)),
         Made::Done { count, extent } => {
-            if is_joinable(from, count, extent) {
-                return step_of(join_members(table, j, from, count, extent, i));
+            if !is_joinable(from, count, extent) {
+                return Err(too_large());
             }
-            JoinStep::Refused {
-                number: refusals::TOO_LARGE,
-                place: DocAt(0),
-            }
+            let joined = join_members(table, j, from, count, extent, i)?;
+            Ok(JoinStep::So(joined))
         }
     }
 }
@@ -100,7 +93,7 @@ fn join_array(
     layer: usize,
     j: Join,
     i: usize,
-) -> JoinStep
+) -> Result<JoinStep, Refusal>
     requires { JoinAsked bytes.now work.old room.old base i j × (base ≤ top) × (top ≤ entries) }
     ensures { ArrayJoinedIs table.now base i top layer j work.old work.new bytes.now
         room.old room.new result }
@@ -120,7 +113,7 @@ fn join_simple(
     layer: usize,
     j: Join,
     i: usize,
-) -> Joined
+) -> Result<Join, Refusal>
     requires { GapAsked room.old (text_of j) i }
     ensures { SimpleIs table.now bytes.now i layer j room.old room.new result }
 {
@@ -148,7 +141,7 @@ pub fn join_one(
     layer: usize,
     j: Join,
     i: usize,
-) -> JoinStep
+) -> Result<JoinStep, Refusal>
     requires { JoinAsked bytes.now work.old room.old base i j × (base ≤ top) × (top ≤ entries) }
     ensures { OneJoinedIs table.now base i top layer j work.old work.new bytes.now
         room.old room.new result }
@@ -156,5 +149,6 @@ pub fn join_one(
     if is_array(table, bytes, layer) {
         return join_array(table, bytes, work, base, room, top, layer, j, i);
     }
-    step_of(join_simple(room, table, bytes, layer, j, i))
+    let joined = join_simple(room, table, bytes, layer, j, i)?;
+    Ok(JoinStep::So(joined))
 }

@@ -3,6 +3,7 @@ use mathlib.Core.Path.{◌≡◌, refl, sym, ap, subst, ◌∙◌}
 use Prim.Native.Nat.{ℕ, ◌+◌, ◌≤◌}
 use mathlib.Core.Bool.{Bool, true, false, cond}
 use mathlib.Core.List.{List}
+use Rattle.std.specs.Prelude.{Ok, Err, Some, None}
 use mathlib.Core.Option.{Option, none, some}
 use native.Mathlib.Omega.{arith}
 use lib.ListN.{length}
@@ -17,7 +18,7 @@ use Rattle.rules.specs.Settled.{Given, push_all, members_in, merged_in, value_in
 use Rattle.rules.specs.Unresolved as rules
 use Rattle.rules.specs.Documents.{Setting}
 use Rattle.theory.specs.SettledAnswers.{join_piece_in}
-use Rattle.text_chars.specs.declared.DocAt.{DocAt}
+use Rattle.text_chars.specs.declared.Refusal.{Refusal}
 use Rattle.doc_items.specs.Room.{text_room, sheet_at, trail_at, number_bound}
 use Rattle.eval_writer.specs.Clauses.{Room}
 use Rattle.eval_writer.specs.Composition.{start}
@@ -28,14 +29,12 @@ use Rattle.eval_results.specs.declared.extents.Extent.{Extent}
 use Rattle.eval_results.specs.Sizes.Contracts.{within_c}
 use Rattle.eval_results.specs.Sizes.Answers.{ValueIn, within-nesting, within-records, within-texts, value-within, value-records, value-stands}
 use Rattle.eval_store.specs.Values.Contracts.{Full}
-use Rattle.eval_concat.specs.Model.{join, tested_c}
+use Rattle.eval_concat.specs.Model.{Joined, join, too_large_c, tested_c}
 use Rattle.eval_concat.specs.Standing.{JoinIn, JoinedIs}
 use Rattle.eval_concat.specs.Objects as joins
-use Rattle.eval_concat.specs.Objects.{object_by, object_c, ObjectJoinedIs, object-is, merged-is}
+use Rattle.eval_concat.specs.Objects.{ObjectJoined, object_by, object_c, ObjectJoinedIs, object-is, merged-is}
 use Rattle.eval_concat.specs.declared.Kind.{Kind}
 use Rattle.eval_concat.specs.declared.Join.{Join}
-use Rattle.eval_concat.specs.declared.Joined.{Joined}
-use Rattle.eval_concat.specs.declared.ObjectJoined.{ObjectJoined}
 use Rattle.eval_groups.specs.Select.Levels.{below_then, below-lower}
 use Rattle.eval_memory.specs.Keys.{KeyNumber}
 use Rattle.eval_results.specs.Values.Comes.{Comes, ComesBy, ValueThere}
@@ -50,7 +49,7 @@ use Rattle.eval_value_laws.specs.Clauses.{Left, ObjectIs, merged_by}
 use Rattle.eval_concat_objects.specs.Pair.Contracts.{MergeAsked, MergeIs}
 use Rattle.eval_pieces.specs.Clauses.{MergedOf}
 use Rattle.eval_concat.specs.Steps.Distinct.{DistinctJoin}
-use Rattle.eval_concat.specs.Steps.Contracts.{Good, Steady, JoinAsked, StepGiven, StepOfIs, JoinStepIs, step_of}
+use Rattle.eval_concat.specs.Steps.Contracts.{Good, Steady, JoinAsked, StepGiven, Stepped, StepOfIs, JoinStepIs, step_of}
 use Rattle.eval_concat.specs.Steps.Steps.{step-distinct, joined_step}
 use Rattle.eval_concat.specs.declared.steps.JoinStep.{JoinStep}
 use Rattle.eval_concat_objects.specs.Beside.{nothing-beside, beside-then, still, objects-still}
@@ -144,12 +143,12 @@ pub ruleset overs = (second-asked, over-asked, over-merged)
 -- ---- the piece that was written
 
 -- what an object piece is joined to
-so-object : {T : List ℕ} {i : ℕ} {j k : Join} {e : Extent} {r : ObjectJoined} → joins.ObjectIs T i j e r → r ≡ ObjectJoined.So k
+so-object : {T : List ℕ} {i : ℕ} {j k : Join} {e : Extent} {r : ObjectJoined} → joins.ObjectIs T i j e r → r ≡ Ok (Some k)
     → (k.kind ≡ Kind.Object) × (within_c k.extent ≡ true)
 unfolding object_c
 so-object {T} {i} {j} {k} {e} d z = go (within_c e) refl j.kind (sym d.is ∙ z)
   where
-    go : (s : Bool) → within_c e ≡ s → (q : Kind) → cond s (object_by q T i e) ObjectJoined.TooLarge ≡ ObjectJoined.So k
+    go : (s : Bool) → within_c e ≡ s → (q : Kind) → cond s (object_by q T i e) (Err too_large_c) ≡ Ok (Some k)
         → (k.kind ≡ Kind.Object) × (within_c k.extent ≡ true)
     go true v Kind.Blank h = let y : join Kind.Object e ≡ k = cc in rw (sym y) (refl, v)
     go true v Kind.Simple h = clash (cc)
@@ -157,19 +156,19 @@ so-object {T} {i} {j} {k} {e} d z = go (within_c e) refl j.kind (sym d.is ∙ z)
     go true v Kind.Object h = clash (cc)
     go false v q h = clash (cc)
 
-merge-small : {T : List ℕ} {i : ℕ} {j : Join} {e : Extent} {r : ObjectJoined} → joins.ObjectIs T i j e r → r ≡ ObjectJoined.Merge → within_c e ≡ true
+merge-small : {T : List ℕ} {i : ℕ} {j : Join} {e : Extent} {r : ObjectJoined} → joins.ObjectIs T i j e r → r ≡ Ok None → within_c e ≡ true
 unfolding object_c
 merge-small {T} {i} {j} {e} d z = go (within_c e) refl (sym d.is ∙ z)
   where
-    go : (s : Bool) → within_c e ≡ s → cond s (object_by j.kind T i e) ObjectJoined.TooLarge ≡ ObjectJoined.Merge → within_c e ≡ true
+    go : (s : Bool) → within_c e ≡ s → cond s (object_by j.kind T i e) (Err too_large_c) ≡ Ok None → within_c e ≡ true
     go true v h = v
     go false v h = clash (cc)
 
-tested-object : {k : Join} (e : Extent) → tested_c (join Kind.Object e) ≡ Joined.So k → (k.kind ≡ Kind.Object) × (within_c k.extent ≡ true)
+tested-object : {k : Join} (e : Extent) → tested_c (join Kind.Object e) ≡ Ok k → (k.kind ≡ Kind.Object) × (within_c k.extent ≡ true)
 unfolding tested_c
 tested-object {k} e z = go (within_c e) refl z
   where
-    go : (s : Bool) → within_c e ≡ s → cond s (Joined.So (join Kind.Object e)) Joined.TooLarge ≡ Joined.So k
+    go : (s : Bool) → within_c e ≡ s → cond s (Ok (join Kind.Object e)) (Err too_large_c) ≡ Ok k
         → (k.kind ≡ Kind.Object) × (within_c k.extent ≡ true)
     go true v h = let y : join Kind.Object e ≡ k = cc in rw (sym y) (refl, v)
     go false v h = clash (cc)
@@ -189,40 +188,32 @@ module _ {B w b : List ℕ} {base i : ℕ} (A : PieceAsked B w b base i) {T : Li
       → ObjectJoinedIs key (Good T items) b ns J piece (join_piece_in place gap (some (object_of ns)) J) q
   joined x key items S place gap J ns g = object-is g.at g.value J g.join d
 
-  alone : (r : Joined) → ((k : Join) → r ≡ Joined.So k → (k.kind ≡ Kind.Object) × (within_c k.extent ≡ true))
+  alone : (r : Joined) → ((k : Join) → r ≡ Ok k → (k.kind ≡ Kind.Object) × (within_c k.extent ≡ true))
       → ((x : Setting) (key : ℕ → Text) (items : ℕ) (S : Trail Answer) (place : ℕ) (gap : Text) (J : rules.Join) (ns : Members)
       → PieceGiven x key items T B S base i place gap j piece b J ns → JoinedIs key (Good T items) b (join_piece_in place gap (some (object_of ns)) J) r)
       → PieceJoinedIs T base i j piece w w B B b b r
   alone r o h = record { left = stays base; beside = nothing-beside; whole = A.whole; object = o; is = h }
 
-  pub written-so : {k : Join} → q ≡ ObjectJoined.So k → PieceJoinedIs T base i j piece w w B B b b (Joined.So k)
+  pub written-so : {k : Join} → q ≡ Ok (Some k) → PieceJoinedIs T base i j piece w w B B b b (Ok k)
   written-so {k} z =
-      alone (Joined.So k) (λ m e. let y : k ≡ m = cc (e) in rw (← y) (so-object d z))
+      alone (Ok k) (λ m e. let y : k ≡ m = cc (e) in rw (← y) (so-object d z))
       (λ x key items S place gap J ns g.
-      let h : ObjectJoinedIs key (Good T items) b ns J piece (join_piece_in place gap (some (object_of ns)) J) (ObjectJoined.So k) =
+      let h : ObjectJoinedIs key (Good T items) b ns J piece (join_piece_in place gap (some (object_of ns)) J) (Ok (Some k)) =
       rw z at (joined x key items S place gap J ns g) in
       record { is = h.is })
 
-  pub written-mixed : {p : DocAt} → q ≡ ObjectJoined.Mixed p → PieceJoinedIs T base i j piece w w B B b b (Joined.Mixed p)
-  written-mixed {p} z =
-      alone (Joined.Mixed p) (λ m e. clash (cc (e)))
+  pub written-refused : {p : Refusal} → q ≡ Err p → PieceJoinedIs T base i j piece w w B B b b (Err p)
+  written-refused {p} z =
+      alone (Err p) (λ m e. clash (cc (e)))
       (λ x key items S place gap J ns g.
-      let h : ObjectJoinedIs key (Good T items) b ns J piece (join_piece_in place gap (some (object_of ns)) J) (ObjectJoined.Mixed p) =
+      let h : ObjectJoinedIs key (Good T items) b ns J piece (join_piece_in place gap (some (object_of ns)) J) (Err p) =
       rw z at (joined x key items S place gap J ns g) in
       record { is = h.is })
 
-  pub written-large : q ≡ ObjectJoined.TooLarge → PieceJoinedIs T base i j piece w w B B b b Joined.TooLarge
-  written-large z =
-      alone Joined.TooLarge (λ m e. clash (cc (e)))
-      (λ x key items S place gap J ns g.
-      let h : ObjectJoinedIs key (Good T items) b ns J piece (join_piece_in place gap (some (object_of ns)) J) ObjectJoined.TooLarge =
-      rw z at (joined x key items S place gap J ns g) in
-      record { is = h.is })
-
-  pub merging-asked : q ≡ ObjectJoined.Merge → OverAsked B w base b piece
+  pub merging-asked : q ≡ Ok None → OverAsked B w base b piece
   merging-asked z = record { whole = A.whole; bytes = A.bytes; most = A.most; work = A.work; used = A.used; small = merge-small d z }
 
-  pub written-merged : {w' B' a : List ℕ} {r : Joined} → q ≡ ObjectJoined.Merge → OverIs T base piece w w' B B' b a r
+  pub written-merged : {w' B' a : List ℕ} {r : Joined} → q ≡ Ok None → OverIs T base piece w w' B B' b a r
       → PieceJoinedIs T base i j piece w w' B B' b a r
   written-merged {w'} {B'} {a} {r} z f = record {
     left = f.left;
@@ -230,7 +221,7 @@ module _ {B w b : List ℕ} {base i : ℕ} (A : PieceAsked B w b base i) {T : Li
     whole = f.whole;
     object = λ m e. tested-object f.extent (sym f.tested ∙ e);
     is = λ x key items S place gap J ns g.
-        let h : ObjectJoinedIs key (Good T items) b ns J piece (join_piece_in place gap (some (object_of ns)) J) ObjectJoined.Merge =
+        let h : ObjectJoinedIs key (Good T items) b ns J piece (join_piece_in place gap (some (object_of ns)) J) (Ok None) =
         rw z at (joined x key items S place gap J ns g) in
         let m = h.is.0 in
         let l : record_size (object_of m.lower) ≤ max_records =
@@ -246,20 +237,19 @@ module _ {B w b : List ℕ} {base i : ℕ} (A : PieceAsked B w b base i) {T : Li
         rw f.tested (merged-is m v);
   }
 
-pub ruleset writing = (written-so, written-mixed, written-large, merging-asked, written-merged)
+pub ruleset writing = (written-so, written-refused, merging-asked, written-merged)
 
 -- ---- what the objects came to
 
-step_so : {q : Joined} {r : JoinStep} {k : Join} → StepOfIs q r → r ≡ JoinStep.So k → q ≡ Joined.So k
+step_so : {q : Joined} {r : Stepped} {k : Join} → StepOfIs q r → r ≡ Ok (JoinStep.So k) → q ≡ Ok k
 step_so {q} {r} {k} s e = go q (sym s.is ∙ e)
   where
-    go : (q : Joined) → step_of q ≡ JoinStep.So k → q ≡ Joined.So k
-    go (Joined.So j) e = let z : j ≡ k = cc (e) in ap Joined.So z
-    go (Joined.Mixed p) e = clash (cc (e))
-    go Joined.TooLarge e = clash (cc (e))
+    go : (q : Joined) → step_of q ≡ Ok (JoinStep.So k) → q ≡ Ok k
+    go (Ok j) e = cc (e)
+    go (Err p) e = clash (cc (e))
 
 module _ {B w b : List ℕ} {base i : ℕ} (A : PieceAsked B w b base i) {j : Join} {q : Worked} where
-  pub worked-needs : {T : List ℕ} {d : ℕ} → q ≡ Worked.Needs d → WorkedJoinedIs T base i j q w w B B b b (JoinStep.Needs d)
+  pub worked-needs : {T : List ℕ} {d : ℕ} → q ≡ Worked.Needs d → WorkedJoinedIs T base i j q w w B B b b (Ok (JoinStep.Needs d))
   worked-needs {T} {d} z = record {
     left = stays base;
     beside = nothing-beside;
@@ -270,18 +260,18 @@ module _ {B w b : List ℕ} {base i : ℕ} (A : PieceAsked B w b base i) {j : Jo
         ap (λ (u : Given Answer). then u (λ v. join_piece_in place gap v J)) c;
   }
 
-  pub worked-undefined : {T : List ℕ} {r : JoinStep} → q ≡ Worked.Undefined → StepOfIs Joined.TooLarge r → WorkedJoinedIs T base i j q w w B B b b r
-  worked-undefined {T} z o = record {
+  pub worked-undefined : {T : List ℕ} {p : Refusal} → q ≡ Worked.Undefined → WorkedJoinedIs T base i j q w w B B b b (Err p)
+  worked-undefined {T} z = record {
     left = stays base;
     beside = nothing-beside;
     whole = A.whole;
-    object = λ k e. clash (cc (step_so o e));
+    object = λ k e. clash (cc (e));
     is = λ x key items S place gap J g s.
         let c : ComesBy key (KeyNumber T (items + 1)) g start s.old b Worked.Undefined = rw z at s.comes.is in
         absurd (s.defined c.0);
   }
 
-  pub worked-done : {T w' B' a : List ℕ} {piece : Extent} {p : Joined} {r : JoinStep} → q ≡ Worked.Done piece
+  worked-done : {T w' B' a : List ℕ} {piece : Extent} {p : Joined} {r : Stepped} → q ≡ Worked.Done piece
       → PieceJoinedIs T base i j piece w w' B B' b a p → StepOfIs p r → WorkedJoinedIs T base i j q w w' B B' b a r
   worked-done {T} {w'} {B'} {a} {piece} {p} {r} z h o = record {
     left = h.left;
@@ -307,7 +297,14 @@ module _ {B w b : List ℕ} {base i : ℕ} (A : PieceAsked B w b base i) {j : Jo
         (step-distinct place gap J g s.own s.distinct);
   }
 
-pub ruleset workings = (worked-needs, worked-undefined, worked-done)
+  module _ {T w' B' a : List ℕ} {piece : Extent} {p : Joined} (z : q ≡ Worked.Done piece) (h : PieceJoinedIs T base i j piece w w' B B' b a p) where
+    pub worked-so : {k : Join} → p ≡ Ok k → WorkedJoinedIs T base i j q w w' B B' b a (Ok (JoinStep.So k))
+    worked-so e = worked-done z h (record { is = sym (ap step_of e) })
+
+    pub worked-refused : {e : Refusal} → p ≡ Err e → WorkedJoinedIs T base i j q w w' B B' b a (Err e)
+    worked-refused e = worked-done z h (record { is = sym (ap step_of e) })
+
+pub ruleset workings = (worked-needs, worked-undefined, worked-so, worked-refused)
 
 -- ---- objects on the stack
 
@@ -339,7 +336,7 @@ object-steady : (t c : ℕ) {k : Join} → (k.kind ≡ Kind.Object) × (within_c
 object-steady t c {k} (e, w) = record { below = record { text = omega (arith, within-texts k.extent w); count = rw e tt }; tested = rw e w }
 
 module _ {B w b : List ℕ} {base i : ℕ} {j : Join} (A : JoinAsked B w b base i j) {B' : List ℕ} (k : KeptIs b j B B') {lo hi : ℕ}
-    {T w' y : List ℕ} {q : Worked} (f : ObjectIs T B' answers lo hi start 65 w w' q b y) {w'' B'' a : List ℕ} {r : JoinStep}
+    {T w' y : List ℕ} {q : Worked} (f : ObjectIs T B' answers lo hi start 65 w w' q b y) {w'' B'' a : List ℕ} {r : Stepped}
     (h : WorkedJoinedIs T base i j q w' w'' B' B'' y a r) where
   first : (key : ℕ → Text) (items : ℕ) (J : rules.Join) → JoinIn key (Good T items) j b J → DistinctJoin J
       → (ms : Members) → J ≡ rules.joined_object ms → KeptAt (pair_of key items T B') (object_of ms) 0 0

@@ -1,5 +1,5 @@
 -- What joining an object piece asks and promises, a step at a time.
-use Rattle.std.specs.Prelude.{◌≡◌, ℕ, ◌+◌, ◌≤◌, ◌<◌, true, List, length}
+use Rattle.std.specs.Prelude.{◌≡◌, ℕ, ◌+◌, ◌≤◌, ◌<◌, true, List, length, Ok}
 use Rattle.std.proofs.Math.Option.{none, some}
 use Rattle.answers.specs.Ask.{Trail, value, then}
 use Rattle.rules.specs.Bytes.{Text}
@@ -17,11 +17,10 @@ use Rattle.eval_writer.specs.Copies.Contracts.{most_bytes}
 use Rattle.eval_results.specs.declared.extents.Extent.{Extent}
 use Rattle.eval_results.specs.Sizes.Contracts.{within_c}
 use Rattle.eval_results.specs.Sizes.Answers.{ValueIn}
-use Rattle.eval_concat.specs.Model.{join, tested_c}
+use Rattle.eval_concat.specs.Model.{Joined, join, tested_c}
 use Rattle.eval_concat.specs.Standing.{PieceAt, JoinIn, JoinedIs}
 use Rattle.eval_concat.specs.declared.Kind.{Kind}
 use Rattle.eval_concat.specs.declared.Join.{Join}
-use Rattle.eval_concat.specs.declared.Joined.{Joined}
 use Rattle.eval_stack.specs.Model.{entries, Work}
 use Rattle.eval_memory.specs.Keys.{KeyNumber}
 use Rattle.eval_results.specs.Values.Comes.{Comes}
@@ -31,7 +30,7 @@ use Rattle.eval_state.specs.Values.{KeptAt}
 use Rattle.eval_state.specs.State.{State}
 use Rattle.eval_value_laws.specs.Clauses.{Left}
 use Rattle.eval_concat.specs.Steps.Distinct.{DistinctJoin}
-use Rattle.eval_concat.specs.Steps.Contracts.{TestedKind, Good, StepCase}
+use Rattle.eval_concat.specs.Steps.Contracts.{Stepped, TestedKind, Good, StepCase}
 use Rattle.eval_concat.specs.declared.steps.JoinStep.{JoinStep}
 use Rattle.eval_concat_objects.specs.Beside.{Beside}
 
@@ -104,7 +103,7 @@ pub record PieceJoinedIs (T : List ℕ) (base i : ℕ) (j : Join) (piece : Exten
   pub left : Left base w w'
   pub beside : Beside B B'
   pub whole : Room a
-  pub object : (k : Join) → r ≡ Joined.So k → (k.kind ≡ Kind.Object) × (within_c k.extent ≡ true)
+  pub object : (k : Join) → r ≡ Ok k → (k.kind ≡ Kind.Object) × (within_c k.extent ≡ true)
   pub is : (x : Setting) (key : ℕ → Text) (items : ℕ) (S : Trail Answer) (place : ℕ) (gap : Text) (J : rules.Join) (ns : Members)
       → PieceGiven x key items T B S base i place gap j piece b J ns → JoinedIs key (Good T items) a (join_piece_in place gap (some (object_of ns)) J) r
 
@@ -127,10 +126,10 @@ pub record WorkedGiven (x : Setting) (key : ℕ → Text) (items : ℕ) (T B : L
   pub first : (ms : Members) → J ≡ rules.joined_object ms → KeptAt (pair_of key items T B) (object_of ms) 0 0
   pub fits : base + merge_room ≤ entries
 
-pub record WorkedJoinedIs (T : List ℕ) (base i : ℕ) (j : Join) (worked : Worked) (w w' B B' b a : List ℕ) (r : JoinStep) : Type 0 where
+pub record WorkedJoinedIs (T : List ℕ) (base i : ℕ) (j : Join) (worked : Worked) (w w' B B' b a : List ℕ) (r : Stepped) : Type 0 where
   pub left : Left base w w'
   pub beside : Beside B B'
   pub whole : Room a
-  pub object : (k : Join) → r ≡ JoinStep.So k → (k.kind ≡ Kind.Object) × (within_c k.extent ≡ true)
+  pub object : (k : Join) → r ≡ Ok (JoinStep.So k) → (k.kind ≡ Kind.Object) × (within_c k.extent ≡ true)
   pub is : (x : Setting) (key : ℕ → Text) (items : ℕ) (S : Trail Answer) (place : ℕ) (gap : Text) (J : rules.Join) (g : Given Answer)
       → WorkedGiven x key items T B S base i place gap j worked b J g → StepCase key (Good T items) a (then g (λ v. join_piece_in place gap v J)) r

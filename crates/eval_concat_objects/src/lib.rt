@@ -12,26 +12,23 @@ ghost use Rattle.eval_concat.specs.Steps.Contracts.{JoinAsked, JoinStepIs};
 ghost use Rattle.eval_concat_objects.specs.Clauses.{KeepAsked, KeptIs, OverAsked, OverIs, PieceAsked, PieceJoinedIs, WorkedJoinedIs};
 
 use crate::pair::merge;
-use eval_concat::steps::{JoinStep, step_of};
-use eval_concat::{Join, Joined, Kind, ObjectJoined, join_object, tested};
+use eval_concat::steps::JoinStep;
+use eval_concat::{Join, Kind, join_object, tested, too_large};
 use eval_results::extents::Extent;
 use eval_results::values::Worked;
 use eval_state::keep_pair;
 use eval_values::LEVELS;
 use eval_values::objects::object_value;
 use eval_writer::{Out, Source};
-use text_chars::{RecAt, TextAt};
+use text_chars::{RecAt, Refusal, TextAt};
 
 // Keeps a join that is an object.
 fn keep_join(bytes: &mut [u8], room: &[u8], j: Join)
     requires { KeepAsked bytes.old room.now j }
     ensures { KeptIs room.now j bytes.old bytes.new }
 {
-    let e = j.extent;
-    let o = e.out;
-    let kind = j.kind;
-    match kind {
-        Kind::Object => keep_pair(bytes, room, o, false),
+    match j.kind {
+        Kind::Object => keep_pair(bytes, room, j.extent.out, false),
         Kind::Blank => {}
         Kind::Simple => {}
         Kind::Array { count } => {}
@@ -46,12 +43,11 @@ fn join_over(
     base: usize,
     room: &mut [u8],
     piece: Extent,
-) -> Joined
+) -> Result<Join, Refusal>
     requires { OverAsked bytes.old work.old base room.old piece }
     ensures { OverIs table.now base piece work.old work.new bytes.old bytes.new room.old room.new result }
 {
-    let o = piece.out;
-    keep_pair(bytes, room, o, true);
+    keep_pair(bytes, room, piece.out, true);
     let merged = merge(table, bytes, work, base, room);
     tested(Join {
         kind: Kind::Object,
@@ -69,16 +65,14 @@ fn join_written(
     j: Join,
     piece: Extent,
     i: usize,
-) -> Joined
+) -> Result<Join, Refusal>
     requires { PieceAsked bytes.old work.old room.old base i }
     ensures { PieceJoinedIs table.now base i j piece work.old work.new bytes.old bytes.new
         room.old room.new result }
 {
-    match join_object(table, j, piece, i) {
-        ObjectJoined::So(k) => Joined::So(k),
-        ObjectJoined::Mixed(place) => Joined::Mixed(place),
-        ObjectJoined::TooLarge => Joined::TooLarge,
-        ObjectJoined::Merge => join_over(table, bytes, work, base, room, piece),
+    match join_object(table, j, piece, i)? {
+        Some(k) => Ok(k),
+        None => join_over(table, bytes, work, base, room, piece),
     }
 }
 
@@ -92,15 +86,18 @@ fn join_worked(
     j: Join,
     worked: Worked,
     i: usize,
-) -> JoinStep
+) -> Result<JoinStep, Refusal>
     requires { PieceAsked bytes.old work.old room.old base i }
     ensures { WorkedJoinedIs table.now base i j worked work.old work.new bytes.old bytes.new room.old room.new result }
 {
     match worked {
-        Worked::Needs(b) => JoinStep::Needs(b),
+        Worked::Needs(b) => Ok(JoinStep::Needs(b)),
         // merged objects are never undefined
-        Worked::Undefined => step_of(Joined::TooLarge),
-        Worked::Done(piece) => step_of(join_written(table, bytes, work, base, room, j, piece, i)),
+        Worked::Undefined => Err(too_large()),
+        Worked::Done(piece) => {
+            let joined = join_written(table, bytes, work, base, room, j, piece, i)?;
+            Ok(JoinStep::So(joined))
+        }
     }
 }
 
@@ -115,7 +112,7 @@ pub fn join_objects(
     hi: usize,
     j: Join,
     i: usize,
-) -> JoinStep
+) -> Result<JoinStep, Refusal>
     requires { JoinAsked bytes.old work.old room.old base i j × (base ≤ lo) × (lo ≤ hi) × (hi ≤ entries) }
     ensures { JoinStepIs table.now base i j (λ M known g. MergedOf M known work.old lo hi g) work.old work.new bytes.old bytes.new room.old room.new result }
 {

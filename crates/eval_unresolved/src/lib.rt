@@ -19,6 +19,7 @@ use eval_concat::steps::JoinStep;
 use eval_pieces::cursor::is_sole;
 use eval_pieces::piece_of;
 use eval_results::sizes::{Outcome, outcome_of, sized};
+use text_chars::Refusal;
 
 // ---- one piece
 
@@ -65,9 +66,9 @@ fn several(
         bytes.old bytes.new result room.new }
 {
     match join_pieces(table, bytes, env, work, base, room, item) {
-        JoinStep::So(j) => outcome_of(join_answer(room, j)),
-        JoinStep::Needs(b) => Outcome::Needs(b),
-        JoinStep::Refused { number, place } => Outcome::Refused { number, place },
+        Ok(JoinStep::So(j)) => outcome_of(join_answer(room, j)),
+        Ok(JoinStep::Needs(b)) => Outcome::Needs(b),
+        Err(Refusal { number, place }) => Outcome::Refused { number, place },
     }
 }
 

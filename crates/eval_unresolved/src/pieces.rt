@@ -10,7 +10,7 @@ use eval_pieces::cursor::{next_piece, pieces_end};
 use eval_pieces::piece_of;
 use eval_results::extents::Extent;
 use eval_writer::Out;
-use text_chars::{RecAt, TextAt};
+use text_chars::{RecAt, Refusal, TextAt};
 
 // The piece at item i, joined to those before it.
 fn join_next(
@@ -23,7 +23,7 @@ fn join_next(
     item: usize,
     i: usize,
     j: Join,
-) -> JoinStep
+) -> Result<JoinStep, Refusal>
     requires { NextAsked bytes.old env.now work.old room.old base item i j }
     ensures { JoinNextIs table.now env.now base item i j work.old work.new
         bytes.old bytes.new room.old room.new result }
@@ -41,7 +41,7 @@ pub fn join_pieces(
     base: usize,
     room: &mut [u8],
     item: usize,
-) -> JoinStep
+) -> Result<JoinStep, Refusal>
     requires { Asked bytes.old env.now work.old room.old base item }
     ensures { PiecesJoinedIs table.now env.now base item work.old work.new
         bytes.old bytes.new room.new result }
@@ -59,18 +59,14 @@ pub fn join_pieces(
         },
     };
     while i < end {
-        match join_next(table, bytes, env, work, base, room, item, i, j) {
-            JoinStep::Needs(b) => {
-                return JoinStep::Needs(b);
-            }
-            JoinStep::Refused { number, place } => {
-                return JoinStep::Refused { number, place };
-            }
+        let step = join_next(table, bytes, env, work, base, room, item, i, j)?;
+        match step {
+            JoinStep::Needs(b) => return Ok(JoinStep::Needs(b)),
             JoinStep::So(k) => {
                 j = k;
                 i = next_piece(table, i, end);
             }
         }
     }
-    JoinStep::So(j)
+    Ok(JoinStep::So(j))
 }

@@ -13,5 +13,5 @@ returns-in-Blank c = search object-laws
 pub returns-in-Object : goal.returns-in-Object
 returns-in-Object c = search object-laws
 
-pub returns : goal.returns
-returns c = search object-laws
+pub returns-then-not-is_within : goal.returns-then-not-is_within
+returns-then-not-is_within c = search object-laws

@@ -9,9 +9,9 @@ use Rattle.rules.specs.Bytes.{Text}
 use Rattle.doc_items.specs.Writing.{ReadIs}
 use Rattle.eval_writer.specs.Model.{word_at}
 use Rattle.sheet_forms.specs.Clauses.{PairIs}
+use Rattle.eval_concat.specs.Model.{Joined}
 use Rattle.eval_concat.specs.Clauses.{TextJoinedIs}
 use Rattle.eval_concat.specs.declared.Join.{Join}
-use Rattle.eval_concat.specs.declared.Joined.{Joined}
 use Rattle.eval_concat.specs.Scalar.Contracts.{WordJoinedIs, ItemJoinedIs, record_text, RecordJoinedIs}
 
 module _ {T X : List ℕ} {i : ℕ} {j : Join} {b a : List ℕ} {r : Joined} where

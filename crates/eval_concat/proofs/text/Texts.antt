@@ -3,6 +3,7 @@ use mathlib.Core.Path.{◌≡◌, refl, sym, ap, ◌∙◌}
 use Prim.Native.Nat.{ℕ, ◌+◌, ◌*◌, ◌≤◌, ◌<◌}
 use mathlib.Core.Bool.{true, false}
 use mathlib.Core.List.{List}
+use Rattle.std.specs.Prelude.{Ok, Err}
 use native.Mathlib.Omega.{arith}
 use lib.ListN.{length}
 use lib.Seq.{take-length}
@@ -10,16 +11,16 @@ use borrow.Author.Tests.{le-leb, lt-leb}
 use Rattle.rules.specs.Bytes.{Text}
 use Rattle.rules.specs.Sizes.{max_text}
 use Rattle.text_chars.specs.Clash.{clash}
+use Rattle.text_chars.specs.declared.Refusal.{Refusal}
 use Rattle.text_chars.specs.declared.TextAt.{TextAt}
 use Rattle.doc_items.specs.Writing.{ReadIs}
 use Rattle.eval_writer.specs.Model.{word_at, key_len}
 use Rattle.eval_writer.specs.Clauses.{Room, PutsText}
-use Rattle.eval_concat.specs.Model.{join, text_of, blank_join, text_join, mixed_at, tested_c, takes_text, nothing_c, text_c}
+use Rattle.eval_concat.specs.Model.{Joined, too_large_c, join, text_of, text_join, mixed_at, tested_c, takes_text, nothing_c, text_c}
 use Rattle.eval_concat.specs.Kinds.{array-stays, object-stays}
 use Rattle.eval_concat.specs.Clauses.{GapIs, AddedIs, TextJoinedIs, NothingIs}
 use Rattle.eval_concat.specs.declared.Kind.{Kind}
 use Rattle.eval_concat.specs.declared.Join.{Join}
-use Rattle.eval_concat.specs.declared.Joined.{Joined}
 
 pub gap_is : {T X : List ℕ} (i : ℕ) {to at n : ℕ} {b a : List ℕ} → ReadIs T (8 * i + 2) at → ReadIs T (8 * i + 3) n → PutsText to n (word_at X at n) b a
     → GapIs T X i to b a (to + n)
@@ -43,35 +44,35 @@ added_is {T} {X} {i} {s} {to} {e} {b} {x} {a} {r} w l g p t =
     }
 
 module _ {T X : List ℕ} {i : ℕ} {s : Text} {j : Join} {b : List ℕ} where
-  pub text-long : max_text < length s → TextJoinedIs T X i s j b b Joined.TooLarge
+  pub text-long : {e : Refusal} → max_text < length s → e ≡ too_large_c → TextJoinedIs T X i s j b b (Err e)
   unfolding text_c
-  text-long h = record { is = rw (text_c, lt-leb (length s) max_text h); put = λ l k. absurd (omega arith) }
+  text-long h q = record { is = ap Err q ∙ rw (text_c, lt-leb (length s) max_text h); put = λ l k. absurd (omega arith) }
 
-  module _ (h : length s ≤ max_text) {a : List ℕ} {r : Joined} where
-    text-mixed : takes_text j.kind ≡ false → r ≡ mixed_at T i → TextJoinedIs T X i s j b a r
+  module _ (h : length s ≤ max_text) {a : List ℕ} where
+    text-mixed : {e : Refusal} → takes_text j.kind ≡ false → e ≡ mixed_at T i → TextJoinedIs T X i s j b a (Err e)
     unfolding text_c
-    text-mixed k e = record { is = e ∙ rw (text_c, le-leb (length s) max_text h, k); put = λ l t. clash (cc) }
+    text-mixed k e = record { is = ap Err e ∙ rw (text_c, le-leb (length s) max_text h, k); put = λ l t. clash (cc) }
 
-    pub text-array : {c : ℕ} → j.kind ≡ Kind.Array c → r ≡ mixed_at T i → TextJoinedIs T X i s j b a r
+    pub text-array : {e : Refusal} {c : ℕ} → j.kind ≡ Kind.Array c → e ≡ mixed_at T i → TextJoinedIs T X i s j b a (Err e)
     text-array k e = text-mixed (rw k) e
 
-    pub text-object : j.kind ≡ Kind.Object → r ≡ mixed_at T i → TextJoinedIs T X i s j b a r
+    pub text-object : {e : Refusal} → j.kind ≡ Kind.Object → e ≡ mixed_at T i → TextJoinedIs T X i s j b a (Err e)
     text-object k e = text-mixed (rw k) e
 
-    text-added : takes_text j.kind ≡ true → AddedIs T X i s (text_of j) b a r → TextJoinedIs T X i s j b a r
+    text-added : {r : Joined} → takes_text j.kind ≡ true → AddedIs T X i s (text_of j) b a r → TextJoinedIs T X i s j b a r
     unfolding text_c
     text-added k g = record { is = g.is ∙ rw (text_c, le-leb (length s) max_text h, k); put = λ l t. g.put }
 
-    pub text-blank : j.kind ≡ Kind.Blank → AddedIs T X i s (text_of j) b a r → TextJoinedIs T X i s j b a r
+    pub text-blank : {r : Joined} → j.kind ≡ Kind.Blank → AddedIs T X i s (text_of j) b a r → TextJoinedIs T X i s j b a r
     text-blank k g = text-added (rw k) g
 
-    pub text-simple : j.kind ≡ Kind.Simple → AddedIs T X i s (text_of j) b a r → TextJoinedIs T X i s j b a r
+    pub text-simple : {r : Joined} → j.kind ≡ Kind.Simple → AddedIs T X i s (text_of j) b a r → TextJoinedIs T X i s j b a r
     text-simple k g = text-added (rw k) g
 
 pub ruleset text-laws = (text-long, text-array, text-object, text-blank, text-simple)
 
 module _ {T X : List ℕ} {i : ℕ} {j : Join} {b : List ℕ} where
-  pub nothing-array : {c : ℕ} → j.kind ≡ Kind.Array c → NothingIs T X i j b b (Joined.So j)
+  pub nothing-array : {c : ℕ} → j.kind ≡ Kind.Array c → NothingIs T X i j b b (Ok j)
   unfolding nothing_c
   nothing-array k = record {
     is = sym (array-stays j.kind j (text_of j + key_len T i) k);
@@ -80,7 +81,7 @@ module _ {T X : List ℕ} {i : ℕ} {j : Join} {b : List ℕ} where
     near = λ t. let z : takes_text j.kind ≡ false = rw k in clash (cc);
   }
 
-  pub nothing-object : j.kind ≡ Kind.Object → NothingIs T X i j b b (Joined.So j)
+  pub nothing-object : j.kind ≡ Kind.Object → NothingIs T X i j b b (Ok j)
   unfolding nothing_c
   nothing-object k = record {
     is = sym (object-stays j.kind j (text_of j + key_len T i) k);
@@ -90,10 +91,10 @@ module _ {T X : List ℕ} {i : ℕ} {j : Join} {b : List ℕ} where
   }
 
   module _ {a : List ℕ} {end : TextAt} (g : GapIs T X i (text_of j) b a end.0) where
-    pub nothing-blank : j.kind ≡ Kind.Blank → NothingIs T X i j b a (Joined.So (join Kind.Blank (record { out = record { rec = record { 0 = 0 }; text = end }; deep = 0 })))
+    pub nothing-blank : j.kind ≡ Kind.Blank → NothingIs T X i j b a (Ok (join Kind.Blank (record { out = record { rec = record { 0 = 0 }; text = end }; deep = 0 })))
     unfolding nothing_c
     nothing-blank k = record {
-      is = ap (λ (m : ℕ). Joined.So (blank_join m)) g.end ∙ rw (nothing_c, k);
+      is = rw (nothing_c, k, g.end);
       put = λ t. g.put;
       same = λ t. let z : takes_text j.kind ≡ true = rw k in clash (cc);
       near = λ t. let l = g.near in let m = g.end in omega arith;

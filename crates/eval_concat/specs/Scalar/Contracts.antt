@@ -4,9 +4,9 @@ use Rattle.rules.specs.Bytes.{Text}
 use Rattle.rules.specs.Pieces.{word_null, word_false, word_true}
 use Rattle.eval_writer.specs.Model.{word_at}
 use Rattle.sheet_forms.specs.Model.{pair_c}
+use Rattle.eval_concat.specs.Model.{Joined}
 use Rattle.eval_concat.specs.Clauses.{TextJoinedIs}
 use Rattle.eval_concat.specs.declared.Join.{Join}
-use Rattle.eval_concat.specs.declared.Joined.{Joined}
 
 pub record WordJoinedIs (T X : List ℕ) (i at n : ℕ) (j : Join) (b a : List ℕ) (r : Joined) : Type 0 where
   pub is : TextJoinedIs T X i (word_at X at n) j b a r

@@ -1,6 +1,6 @@
 -- What joining one piece asks and promises, whatever the piece comes to: a caller says by `Case` what stands for it on the stack, in the
 -- tables or in the environment.
-use Rattle.std.specs.Prelude.{◌≡◌, ℕ, ◌+◌, ◌≤◌, ◌<◌, true, List, length, get_or}
+use Rattle.std.specs.Prelude.{◌≡◌, ℕ, ◌+◌, ◌≤◌, ◌<◌, true, List, length, get_or, Result, Ok, Err}
 use Rattle.std.proofs.Math.Option.{Option, some}
 use Rattle.answers.specs.Ask.{Trail, lookup, value, missing, refused, then}
 use Rattle.rules.specs.Bytes.{Text}
@@ -11,6 +11,7 @@ use Rattle.rules.specs.Settled.{Given}
 use Rattle.rules.specs.Unresolved as rules
 use Rattle.rules.specs.Documents.{Setting}
 use Rattle.theory.specs.SettledAnswers.{join_piece_in}
+use Rattle.text_chars.specs.declared.Refusal as own
 use Rattle.doc_items.specs.Room.{capacity, bytes_room, number_bound}
 use Rattle.sheet_kept.specs.Kept.{Held}
 use Rattle.eval_writer.specs.Clauses.{Room}
@@ -23,7 +24,7 @@ use Rattle.eval_concat.specs.Growth.{Below}
 use Rattle.eval_concat.specs.Standing.{PieceAt, JoinIn}
 use Rattle.eval_concat.specs.declared.Kind.{Kind}
 use Rattle.eval_concat.specs.declared.Join.{Join}
-use Rattle.eval_concat.specs.declared.Joined.{Joined}
+use Rattle.eval_concat.specs.Model.{Joined}
 use Rattle.eval_stack.specs.Model.{entries, Work}
 use Rattle.eval_memory.specs.Keys.{KeyNumber, EachKey}
 use Rattle.eval_memory.specs.Finished.{Memory}
@@ -35,12 +36,15 @@ use Rattle.eval_concat.specs.declared.steps.JoinStep.{JoinStep}
 
 -- ---- where the piece needed nothing
 
-abbrev pub step_of : Joined → JoinStep
-step_of (Joined.So j) = JoinStep.So j
-step_of (Joined.Mixed place) = JoinStep.Refused 11 place
-step_of Joined.TooLarge = JoinStep.Refused 13 (record { 0 = 0 })
+-- a step, or a refusal
+abbrev pub Stepped : Type 0
+Stepped = Result JoinStep own.Refusal
 
-pub record StepOfIs (joined : Joined) (r : JoinStep) : Type 0 where
+abbrev pub step_of : Joined → Stepped
+step_of (Ok j) = Ok (JoinStep.So j)
+step_of (Err e) = Err e
+
+pub record StepOfIs (joined : Joined) (r : Stepped) : Type 0 where
   pub is : r ≡ step_of joined
 
 -- ---- joins, whatever the tables hold
@@ -101,20 +105,20 @@ module _ (key : ℕ → Text) (P : Held → Type 0) where
     pub distinct : DistinctJoin join
 
   -- document 01's numbers for each case of an answer
-  abbrev pub StepCase : List ℕ → Given rules.Join → JoinStep → Type 0
-  StepCase room g (JoinStep.So j) = JoinDone room g j
-  StepCase room g (JoinStep.Needs d) = g ≡ missing d
-  StepCase room g (JoinStep.Refused number place) = RefusedWith g number place.0
+  abbrev pub StepCase : List ℕ → Given rules.Join → Stepped → Type 0
+  StepCase room g (Ok (JoinStep.So j)) = JoinDone room g j
+  StepCase room g (Ok (JoinStep.Needs d)) = g ≡ missing d
+  StepCase room g (Err e) = RefusedWith g e.number e.place.0
 
 -- The stack below base stays, and so does all that stands between two steps: of the bytes only those of the two objects that merge change,
 -- and the room keeps its length. Each piece adds no more than so much to the join's counters.
 pub record JoinStepIs (T : List ℕ) (base i : ℕ) (j : Join) (Case : Memory → (ℕ → Option Answer) → Given Answer → Type 0)
-    (w w' B B' b a : List ℕ) (r : JoinStep) : Type 0 where
+    (w w' B B' b a : List ℕ) (r : Stepped) : Type 0 where
   pub left : Left base w w'
   pub bytes : length B' ≡ length B
   pub beside : (n d : ℕ) → n < bytes_room → get_or B' n d ≡ get_or B n d
   pub whole : Room a
-  pub grows : (k : Join) → r ≡ JoinStep.So k → (t c : ℕ) → Below t c j → Steady (t + number_bound) (c + far) k
+  pub grows : (k : Join) → r ≡ Ok (JoinStep.So k) → (t c : ℕ) → Below t c j → Steady (t + number_bound) (c + far) k
   pub is : (x : Setting) (key : ℕ → Text) (items : ℕ) (S : Trail Answer) (place : ℕ) (gap : Text) (J : rules.Join) (g : Given Answer)
       → StepGiven x key items T B S base i place gap j b J g → Case (answers_of key items T B) (lookup S) g
       → State x key items T B' S × StepCase key (Good T items) a (then g (λ v. join_piece_in place gap v J)) r

@@ -1,17 +1,17 @@
+use Rattle.std.proofs.lemmas.Result.{err_from_is_err_and}
 use Rattle.eval_concat_objects.proofs.Returns.{writing}
 use Rattle.eval_concat_objects.proofs.join_written.Goals as goal
 
 pub join_over-requires : goal.join_over-requires
-join_over-requires c = search writing
+join_over-requires c = search (writing, c.in_ok-k.was)
 
-pub returns-in-So : goal.returns-in-So
-returns-in-So c = search writing
+pub returns-in_err-k : goal.returns-in_err-k
+returns-in_err-k c =
+    let p = err_from_is_err_and c.from_residual.result c.from_residual.ensures.1 in
+    rw (p.1, p.2) (search (writing, c.in_err-k.was))
 
-pub returns-in-Mixed : goal.returns-in-Mixed
-returns-in-Mixed c = search writing
+pub returns-in-Some : goal.returns-in-Some
+returns-in-Some c = search (writing, c.in_ok-k.was)
 
-pub returns-in-TooLarge : goal.returns-in-TooLarge
-returns-in-TooLarge c = search writing
-
-pub returns-in-Merge : goal.returns-in-Merge
-returns-in-Merge c = search writing
+pub returns-in-None : goal.returns-in-None
+returns-in-None c = search (writing, c.in_ok-k.was)

@@ -1,7 +1,8 @@
 -- A law for each place where the function returns.
-use mathlib.Core.Path.{◌≡◌, refl, sym, ◌∙◌}
+use mathlib.Core.Path.{◌≡◌, refl, sym, ap, ◌∙◌}
 use Prim.Native.Nat.{ℕ, ◌+◌, ◌-◌, ◌^◌, ◌≤◌, ◌<◌}
 use mathlib.Core.List.{List}
+use Rattle.std.specs.Prelude.{Ok, Err}
 use mathlib.Core.Option.{Option, none, some}
 use native.Mathlib.Omega.{arith}
 use lib.ListN.{length, take, drop}
@@ -14,18 +15,20 @@ use Rattle.rules.specs.Tree.{string}
 use Rattle.rules.specs.Values.{Answer, scalar}
 use Rattle.rules.specs.Settled.{Given}
 use Rattle.text_chars.specs.Parts.{part_slice}
+use Rattle.text_chars.specs.Cursor.{refusal}
 use Rattle.text_chars.specs.declared.DocAt.{DocAt}
 use Rattle.text_chars.specs.declared.EnvAt.{EnvAt}
 use Rattle.text_chars.specs.declared.EnvLen.{EnvLen}
+use Rattle.text_chars.specs.declared.Refusal.{Refusal}
 use Rattle.eval_stack.specs.Model.{entries}
 use Rattle.eval_memory.specs.Finished.{Memory}
 use Rattle.eval_concat.specs.Clauses.{TextJoinedIs, NothingIs}
 use Rattle.eval_concat.specs.declared.Join.{Join}
-use Rattle.eval_concat.specs.declared.Joined.{Joined}
+use Rattle.eval_concat.specs.Model.{Joined}
 use Rattle.eval_state.specs.Memories.{answers_of}
 use Rattle.eval_pieces.specs.Clauses.{MergedOf, PieceCase, Inside}
 use Rattle.eval_pieces.specs.declared.Piece.{Piece}
-use Rattle.eval_concat.specs.Steps.Contracts.{StepOfIs, JoinAsked, JoinStepIs}
+use Rattle.eval_concat.specs.Steps.Contracts.{Stepped, step_of, StepOfIs, JoinAsked, JoinStepIs}
 use Rattle.eval_concat.specs.declared.steps.JoinStep.{JoinStep}
 use Rattle.eval_concat_arrays.specs.Clauses.{OneJoinedIs}
 use Rattle.eval_concat_arrays.specs.Steps.{gap-asked, undefined-step, missing-step, refused-step, scalar-step, text-grows, nothing-grows}
@@ -59,7 +62,7 @@ pub ruleset lending = (gap-asked, text-inside, text-fits, one-low, one-high, mer
 -- ---- what it comes to
 
 -- the same of another case
-recase : {T : List ℕ} {base i : ℕ} {j : Join} {One Other : Memory → (ℕ → Option Answer) → Given Answer → Type 0} {w w' B B' b a : List ℕ} {r : JoinStep}
+recase : {T : List ℕ} {base i : ℕ} {j : Join} {One Other : Memory → (ℕ → Option Answer) → Given Answer → Type 0} {w w' B B' b a : List ℕ} {r : Stepped}
     → ((M : Memory) (known : ℕ → Option Answer) (g : Given Answer) → Other M known g → One M known g)
     → JoinStepIs T base i j One w w' B B' b a r → JoinStepIs T base i j Other w w' B B' b a r
 recase f s = record {
@@ -73,19 +76,19 @@ recase f s = record {
 
 module _ (E : List ℕ) {T : List ℕ} {base i : ℕ} {j : Join} {w b : List ℕ} {piece : Piece} {Case : Memory → (ℕ → Option Answer) → Given Answer → Type 0}
     (case : (M : Memory) (known : ℕ → Option Answer) (g : Given Answer) → Case M known g → PieceCase M known E w g piece) where
-  pub piece-one : {B w' a : List ℕ} {r : JoinStep} {top c : ℕ} → piece ≡ Piece.One top c → OneJoinedIs T base i top c j w w' B b a r
+  pub piece-one : {B w' a : List ℕ} {r : Stepped} {top c : ℕ} → piece ≡ Piece.One top c → OneJoinedIs T base i top c j w w' B b a r
       → JoinStepIs T base i j Case w w' B B b a r
   piece-one {top = top} {c} z s =
       recase (λ M known g C. let y : PieceCase M known E w g (Piece.One top c) = rw z at (case M known g C) in y) s.step
 
-  pub piece-merged : {B B' w' a : List ℕ} {r : JoinStep} {lo hi : ℕ} → piece ≡ Piece.Merged lo hi
+  pub piece-merged : {B B' w' a : List ℕ} {r : Stepped} {lo hi : ℕ} → piece ≡ Piece.Merged lo hi
       → JoinStepIs T base i j (λ M known g. MergedOf M known w lo hi g) w w' B B' b a r
       → JoinStepIs T base i j Case w w' B B' b a r
   piece-merged {lo = lo} {hi} z s =
       recase (λ M known g C. let y : PieceCase M known E w g (Piece.Merged lo hi) = rw z at (case M known g C) in y) s
 
   module _ {B : List ℕ} (A : JoinAsked B w b base i j) where
-    pub piece-text : {a : List ℕ} {r : JoinStep} {start : EnvAt} {size : EnvLen} {q : Joined} → piece ≡ Piece.Text start size
+    piece-text : {a : List ℕ} {r : Stepped} {start : EnvAt} {size : EnvLen} {q : Joined} → piece ≡ Piece.Text start size
         → TextJoinedIs T B i (take (start.0 + size.0 - start.0) (drop start.0 E)) j b a q → StepOfIs q r → length a ≡ length b
         → JoinStepIs T base i j Case w w B B b a r
     unfolding scalar_text
@@ -104,7 +107,7 @@ module _ (E : List ℕ) {T : List ℕ} {base i : ℕ} {j : Join} {w b : List ℕ
               rw s.is (scalar-step G a A.whole (string (slice f e E)) q p y);
         }
 
-    pub piece-undefined : {a : List ℕ} {r : JoinStep} {q : Joined} → piece ≡ Piece.Undefined → NothingIs T B i j b a q → StepOfIs q r
+    piece-undefined : {a : List ℕ} {r : Stepped} {q : Joined} → piece ≡ Piece.Undefined → NothingIs T B i j b a q → StepOfIs q r
         → length a ≡ length b → JoinStepIs T base i j Case w w B B b a r
     piece-undefined {a} {r} {q} z m s k = record {
       left = record { below = λ n u v. refl; len = refl };
@@ -118,7 +121,7 @@ module _ (E : List ℕ) {T : List ℕ} {base i : ℕ} {j : Join} {w b : List ℕ
     }
 
     pub piece-needs : {n : ℕ} → piece ≡ Piece.Needs n
-        → JoinStepIs T base i j Case w w B B b b (JoinStep.Needs n)
+        → JoinStepIs T base i j Case w w B B b b (Ok (JoinStep.Needs n))
     piece-needs {n} z = record {
       left = record { below = λ n u v. refl; len = refl };
       bytes = refl;
@@ -131,7 +134,7 @@ module _ (E : List ℕ) {T : List ℕ} {base i : ℕ} {j : Join} {w b : List ℕ
     }
 
     pub piece-missing : {at : DocAt} → piece ≡ Piece.Missing at
-        → JoinStepIs T base i j Case w w B B b b (JoinStep.Refused 9 at)
+        → JoinStepIs T base i j Case w w B B b b (Err (refusal 9 at))
     piece-missing {at} z = record {
       left = record { below = λ n u v. refl; len = refl };
       bytes = refl;
@@ -142,3 +145,18 @@ module _ (E : List ℕ) {T : List ℕ} {base i : ℕ} {j : Join} {w b : List ℕ
           let p : g ≡ refused (placed 9 at.0) = rw z at (case (answers_of key items T B) (lookup S) g C) in
           refused-step G b 9 at.0 p;
     }
+
+    module _ {a : List ℕ} {q : Joined} (l : length a ≡ length b) where
+      module _ {start : EnvAt} {size : EnvLen} (z : piece ≡ Piece.Text start size) (m : TextJoinedIs T B i (take (start.0 + size.0 - start.0) (drop start.0 E)) j b a q) where
+        pub text-so : {k : Join} → q ≡ Ok k → JoinStepIs T base i j Case w w B B b a (Ok (JoinStep.So k))
+        text-so e = piece-text z m (record { is = sym (ap step_of e) }) l
+
+        pub text-refused : {e : Refusal} → q ≡ Err e → JoinStepIs T base i j Case w w B B b a (Err e)
+        text-refused e = piece-text z m (record { is = sym (ap step_of e) }) l
+
+      module _ (z : piece ≡ Piece.Undefined) (m : NothingIs T B i j b a q) where
+        pub nothing-so : {k : Join} → q ≡ Ok k → JoinStepIs T base i j Case w w B B b a (Ok (JoinStep.So k))
+        nothing-so e = piece-undefined z m (record { is = sym (ap step_of e) }) l
+
+        pub nothing-refused : {e : Refusal} → q ≡ Err e → JoinStepIs T base i j Case w w B B b a (Err e)
+        nothing-refused e = piece-undefined z m (record { is = sym (ap step_of e) }) l

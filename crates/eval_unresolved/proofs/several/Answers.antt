@@ -1,11 +1,11 @@
 use Rattle.eval_unresolved.proofs.Joined.{several-laws}
 use Rattle.eval_unresolved.proofs.several.Goals as goal
 
-pub returns-in-So : goal.returns-in-So
-returns-in-So c = search several-laws
+pub returns-in-Ok-So : goal.returns-in-Ok-So
+returns-in-Ok-So c = search several-laws
 
-pub returns-in-Needs : goal.returns-in-Needs
-returns-in-Needs c = search several-laws
+pub returns-in-Ok-Needs : goal.returns-in-Ok-Needs
+returns-in-Ok-Needs c = search several-laws
 
-pub returns-in-Refused : goal.returns-in-Refused
-returns-in-Refused c = search several-laws
+pub returns-in-Err : goal.returns-in-Err
+returns-in-Err c = search several-laws

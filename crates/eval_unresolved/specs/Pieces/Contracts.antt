@@ -1,5 +1,5 @@
 -- What joining the pieces promises.
-use Rattle.std.specs.Prelude.{◌≡◌, ℕ, ◌+◌, ◌*◌, ◌<◌, List, [], length, get_or}
+use Rattle.std.specs.Prelude.{◌≡◌, ℕ, ◌+◌, ◌*◌, ◌<◌, List, [], length, get_or, Ok, Err}
 use Rattle.std.proofs.Math.Option.{Option}
 use Rattle.answers.specs.Ask.{Trail, lookup, value, missing, then}
 use Rattle.rules.specs.Bytes.{Text}
@@ -19,7 +19,7 @@ use Rattle.eval_concat.specs.Standing.{JoinIn}
 use Rattle.eval_concat.specs.declared.Join.{Join}
 use Rattle.eval_state.specs.State.{State}
 use Rattle.eval_value_laws.specs.Clauses.{Left}
-use Rattle.eval_concat.specs.Steps.Contracts.{Steady, Good, RefusedWith, StepCase}
+use Rattle.eval_concat.specs.Steps.Contracts.{Stepped, Steady, Good, RefusedWith, StepCase}
 use Rattle.eval_concat.specs.Steps.Distinct.{DistinctJoin}
 use Rattle.eval_concat.specs.declared.steps.JoinStep.{JoinStep}
 use Rattle.eval_pieces.specs.Cursor.Contracts.{end_c}
@@ -53,12 +53,12 @@ pub record NextAsked (B E w room : List ℕ) (base item i : ℕ) (j : Join) : Ty
   pub piece : i < capacity
   pub steady : Steady farthest most_count j
 
-pub record JoinNextIs (T E : List ℕ) (base item i : ℕ) (j : Join) (w w' B B' room after : List ℕ) (r : JoinStep) : Type 0 where
+pub record JoinNextIs (T E : List ℕ) (base item i : ℕ) (j : Join) (w w' B B' room after : List ℕ) (r : Stepped) : Type 0 where
   pub left : Left base w w'
   pub bytes : length B' ≡ length B
   pub beside : (n d : ℕ) → n < bytes_room → get_or B' n d ≡ get_or B n d
   pub whole : Room after
-  pub grows : (k : Join) → r ≡ JoinStep.So k → (t c : ℕ) → Below t c j → Steady (t + number_bound) (c + far) k
+  pub grows : (k : Join) → r ≡ Ok (JoinStep.So k) → (t c : ℕ) → Below t c j → Steady (t + number_bound) (c + far) k
   pub is : (x : Setting) (key : ℕ → Text) (items : ℕ) (S : Trail Answer) (b : ℕ) (u : Unresolved) (rest : Pieces) (J : rules.Join)
       → Questioned x key items T B E S base item b u → i < end_c T item → Reached key items T item i u.pieces rest j room J
       → State x key items T B' S × StepCase key (Good T items) after (first_in x (lookup S) u rest J) r
@@ -74,12 +74,12 @@ module _ (key : ℕ → Text) (items : ℕ) (T room : List ℕ) (g : Given Answe
     pub is : g ≡ value (join_answer join)
     pub stands : JoinIn key (Good T items) j room join
 
-  abbrev pub JoinedCase : JoinStep → Type 0
-  JoinedCase (JoinStep.So j) = AllJoined j
-  JoinedCase (JoinStep.Needs d) = g ≡ missing d
-  JoinedCase (JoinStep.Refused number place) = RefusedWith g number place.0
+  abbrev pub JoinedCase : Stepped → Type 0
+  JoinedCase (Ok (JoinStep.So j)) = AllJoined j
+  JoinedCase (Ok (JoinStep.Needs d)) = g ≡ missing d
+  JoinedCase (Err e) = RefusedWith g e.number e.place.0
 
-pub record PiecesJoinedIs (T E : List ℕ) (base item : ℕ) (w w' B B' after : List ℕ) (r : JoinStep) : Type 0 where
+pub record PiecesJoinedIs (T E : List ℕ) (base item : ℕ) (w w' B B' after : List ℕ) (r : Stepped) : Type 0 where
   pub left : Left base w w'
   pub bytes : length B' ≡ length B
   pub beside : (n d : ℕ) → n < bytes_room → get_or B' n d ≡ get_or B n d

@@ -1,5 +1,5 @@
 -- Several pieces, joined one behind the other: what holds between two of them.
-use Rattle.std.specs.Prelude.{◌≡◌, refl, ℕ, ◌+◌, ◌*◌, ◌≤◌, ◌<◌, List, [], length, get_or}
+use Rattle.std.specs.Prelude.{◌≡◌, refl, ℕ, ◌+◌, ◌*◌, ◌≤◌, ◌<◌, List, [], length, get_or, Ok, Err}
 use Rattle.std.proofs.Common.{sym, ◌∙◌, arith}
 use Rattle.std.proofs.Math.Path.{ap}
 use Rattle.std.proofs.Math.Option.{Option}
@@ -13,7 +13,7 @@ use Rattle.rules.specs.Unresolved.{Unresolved, blank}
 use Rattle.rules.specs.Documents.{Setting}
 use Rattle.theory.specs.SettledAnswers.{open_in, join_piece_in, substitution_in, several_in}
 use Rattle.theory_order.specs.Skeletons.{rest_of}
-use Rattle.text_chars.specs.declared.DocAt.{DocAt}
+use Rattle.text_chars.specs.declared.Refusal.{Refusal}
 use Rattle.doc_items.specs.Room.{bytes_room, number_bound}
 use Rattle.eval_writer.specs.Clauses.{Room}
 use Rattle.eval_results.specs.Extents.Contracts.{far}
@@ -27,7 +27,7 @@ use Rattle.eval_groups.specs.Select.Levels.{same-below}
 use Rattle.eval_state.specs.State.{State}
 use Rattle.eval_value_laws.specs.Clauses.{Left}
 use Rattle.eval_value_laws.specs.Frames.{left-all, left-then}
-use Rattle.eval_concat.specs.Steps.Contracts.{Steady, Good, StepCase, JoinStepIs}
+use Rattle.eval_concat.specs.Steps.Contracts.{Stepped, Steady, Good, StepCase, JoinStepIs}
 use Rattle.eval_concat.specs.declared.steps.JoinStep.{JoinStep}
 use Rattle.eval_pieces.specs.Clauses.{PieceIs, PieceCase}
 use Rattle.eval_pieces.specs.declared.Piece.{Piece}
@@ -104,7 +104,7 @@ module _ {x : Setting} {key : ℕ → Text} {items : ℕ} {T B E : List ℕ} {S 
 
 -- ---- one piece more
 
-module _ {T B E : List ℕ} {base item i : ℕ} {j : Join} {w w₁ w₂ B' : List ℕ} {piece : Piece} {room after : List ℕ} {r : JoinStep}
+module _ {T B E : List ℕ} {base item i : ℕ} {j : Join} {w w₁ w₂ B' : List ℕ} {piece : Piece} {room after : List ℕ} {r : Stepped}
     (h : PieceIs T B E base item i w w₁ piece)
     (k : JoinStepIs T base i j (λ M known g. PieceCase M known E w₁ g piece) w₁ w₂ B B' room after r) where
   by-piece : (x : Setting) (key : ℕ → Text) (items : ℕ) (S : Trail Answer) (b : ℕ) (u : Unresolved) (rest : Pieces) (J : rules.Join)
@@ -189,7 +189,7 @@ loop-starts whole = record {
 
 module _ {T E : List ℕ} {base item : ℕ} {B w : List ℕ} {i : ℕ} {j : Join} {B₁ w₁ x₁ : List ℕ} (I : LoopInv T E base item B w i j B₁ w₁ x₁) {end : ℕ}
     (e : EndIs T item end) where
-  pub loop-ends : end ≤ i → PiecesJoinedIs T E base item w w₁ B B₁ x₁ (JoinStep.So j)
+  pub loop-ends : end ≤ i → PiecesJoinedIs T E base item w w₁ B B₁ x₁ (Ok (JoinStep.So j))
   unfolding several_in
   loop-ends f = record {
     left = I.left;
@@ -213,7 +213,7 @@ module _ {T E : List ℕ} {base item : ℕ} {B w : List ℕ} {i : ℕ} {j : Join
         here.same ∙ several-first x (lookup S) u here.rest here.join
         ∙ ap (λ (h : Given rules.Join). then h (λ K. several_by x (lookup S) u (rest_of here.rest) K)) z
 
-  module _ {w₂ B₂ x₂ : List ℕ} {r : JoinStep} (l : i < end) (k : JoinNextIs T E base item i j w₁ w₂ B₁ B₂ x₁ x₂ r) where
+  module _ {w₂ B₂ x₂ : List ℕ} {r : Stepped} (l : i < end) (k : JoinNextIs T E base item i j w₁ w₂ B₁ B₂ x₁ x₂ r) where
     left : Left base w w₂
     left = left-then I.left k.left
 
@@ -226,43 +226,42 @@ module _ {T E : List ℕ} {base item : ℕ} {B w : List ℕ} {i : ℕ} {j : Join
         let H = here x key items S b u Q in
         k.is x key items S b u H.rest H.join H.asked (omega (arith, e.is)) H.reached
 
-    pub loop-needs : {d : ℕ} → r ≡ JoinStep.Needs d → PiecesJoinedIs T E base item w w₂ B B₂ x₂ (JoinStep.Needs d)
-    loop-needs {d} z = record {
+    pub loop-needs : {s : JoinStep} {d : ℕ} → r ≡ Ok s → s ≡ JoinStep.Needs d → PiecesJoinedIs T E base item w w₂ B B₂ x₂ (Ok (JoinStep.Needs d))
+    loop-needs {s} {d} z v = record {
       left = left;
       bytes = k.bytes ∙ I.bytes;
       beside = beside;
       whole = k.whole;
       is = λ x key items S b u Q.
           let H = here x key items S b u Q in
-          let y : State x key items T B₂ S × StepCase key (Good T items) x₂ (first_in x (lookup S) u H.rest H.join) (JoinStep.Needs d) = rw z at (step x key items S b u Q) in
+          let y : State x key items T B₂ S × StepCase key (Good T items) x₂ (first_in x (lookup S) u H.rest H.join) (Ok (JoinStep.Needs d)) = rw (z, v) at (step x key items S b u Q) in
           (y.0, several x key items S b u Q y.1);
     }
 
-    pub loop-refused : {number : ℕ} {place : DocAt} → r ≡ JoinStep.Refused number place
-        → PiecesJoinedIs T E base item w w₂ B B₂ x₂ (JoinStep.Refused number place)
-    loop-refused {number} {place} z = record {
+    pub loop-refused : {p : Refusal} → r ≡ Err p → PiecesJoinedIs T E base item w w₂ B B₂ x₂ (Err p)
+    loop-refused {p} z = record {
       left = left;
       bytes = k.bytes ∙ I.bytes;
       beside = beside;
       whole = k.whole;
       is = λ x key items S b u Q.
           let H = here x key items S b u Q in
-          let y : State x key items T B₂ S × StepCase key (Good T items) x₂ (first_in x (lookup S) u H.rest H.join) (JoinStep.Refused number place) = rw z at (step x key items S b u Q) in
+          let y : State x key items T B₂ S × StepCase key (Good T items) x₂ (first_in x (lookup S) u H.rest H.join) (Err p) = rw z at (step x key items S b u Q) in
           let c = y.1 in
           (y.0, record { refusal = c.refusal; is = several x key items S b u Q c.is; its-number = c.its-number; its-place = c.its-place });
     }
 
-    pub loop-goes : {next : ℕ} {q : Join} → r ≡ JoinStep.So q → NextIs T i end next → LoopInv T E base item B w next q B₂ w₂ x₂
-    loop-goes {next} {q} z n = record {
+    pub loop-goes : {next : ℕ} {s : JoinStep} {q : Join} → r ≡ Ok s → s ≡ JoinStep.So q → NextIs T i end next → LoopInv T E base item B w next q B₂ w₂ x₂
+    loop-goes {next} {s} {q} z v n = record {
       left = left;
       bytes = k.bytes ∙ I.bytes;
       beside = beside;
       whole = k.whole;
-      steady = steady-more (omega (arith, n.more)) (omega (arith, n.more)) (k.grows q z (number_bound * i) (far * i) I.steady.below);
+      steady = steady-more (omega (arith, n.more)) (omega (arith, n.more)) (k.grows q (z ∙ ap Ok v) (number_bound * i) (far * i) I.steady.below);
       is = λ x key items S b u Q.
           let H = here x key items S b u Q in
           let A = H.asked in
-          let y : State x key items T B₂ S × StepCase key (Good T items) x₂ (first_in x (lookup S) u H.rest H.join) (JoinStep.So q) = rw z at (step x key items S b u Q) in
+          let y : State x key items T B₂ S × StepCase key (Good T items) x₂ (first_in x (lookup S) u H.rest H.join) (Ok (JoinStep.So q)) = rw (z, v) at (step x key items S b u Q) in
           let c = y.1 in
           let under : i < item + get_or T (8 * item + 1) 0 = omega (arith, e.is) in
           let f = inside A H.rest (behind-left A H.reached.behind) under in

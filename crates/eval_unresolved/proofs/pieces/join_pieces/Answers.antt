@@ -1,3 +1,4 @@
+use Rattle.std.proofs.lemmas.Result.{err_from_is_err_and}
 use Rattle.eval_unresolved.proofs.pieces.Joining.{loop-laws}
 use Rattle.eval_unresolved.proofs.pieces.join_pieces.Goals as goal
 
@@ -7,11 +8,13 @@ loop-i-init c = search loop-laws
 pub join_next-requires : goal.join_next-requires
 join_next-requires c = search loop-laws
 
-pub returns-in-Needs : goal.returns-in-Needs
-returns-in-Needs c = search loop-laws
+pub returns-in_err-step : goal.returns-in_err-step
+returns-in_err-step c =
+    let p = err_from_is_err_and c.from_residual.result c.from_residual.ensures.1 in
+    rw (p.1, p.2) (search (loop-laws, c.in_err-step.was))
 
-pub returns-in-Refused : goal.returns-in-Refused
-returns-in-Refused c = search loop-laws
+pub returns-in-Needs : goal.returns-in-Needs
+returns-in-Needs c = search (loop-laws, c.in_ok-step.was)
 
 pub next_piece-i-requires : goal.next_piece-i-requires
 next_piece-i-requires c = search loop-laws
@@ -20,7 +23,7 @@ pub loop-i-smaller : goal.loop-i-smaller
 loop-i-smaller c = search loop-laws
 
 pub loop-i-preserved : goal.loop-i-preserved
-loop-i-preserved c = search loop-laws
+loop-i-preserved c = search (loop-laws, c.in_ok-step.was)
 
 pub returns : goal.returns
 returns c = search loop-laws
