@@ -4,10 +4,9 @@
 ghost use Rattle.eval_outcomes.specs.Refusals.Contracts.{RefusalAsked, RefusalIs};
 
 use eval_results::sizes::Outcome;
-use eval_trail::Step;
 use eval_trail::turns::newest_item;
 use eval_unresolved::unresolved_value;
-use text_chars::DocAt;
+use text_chars::Refusal;
 
 /// The refusal of the oldest of n questions in the list that refuses, or else the one that is given. The stack is free from base on.
 pub fn first_refusal(
@@ -19,36 +18,19 @@ pub fn first_refusal(
     room: &mut [u8],
     list: &[u16],
     n: usize,
-    number: u8,
-    place: DocAt,
-) -> Step
+    given: Refusal,
+) -> Refusal
     requires { RefusalAsked table.now bytes.old env.now stack.old room.old list.now base n }
-    ensures { RefusalIs table.now env.now list.now base n number place.0
+    ensures { RefusalIs table.now env.now list.now base n given.number given.place.0
         stack.old stack.new bytes.old result }
 {
-    let mut i = 0;
-    while i < n {
+    for i in 0..n {
         let item = newest_item(table, list, i + 1);
-        match unresolved_value(table, bytes, env, stack, base, room, item) {
-            Outcome::Refused {
-                number: first,
-                place: there,
-            } => {
-                return Step::Refused {
-                    number: first,
-                    place: there,
-                };
-            }
-            Outcome::Done(e) => {
-                i += 1;
-            }
-            Outcome::Undefined => {
-                i += 1;
-            }
-            Outcome::Needs(b) => {
-                i += 1;
-            }
+        if let Outcome::Refused { number, place } = unresolved_value(
+            table, bytes, env, stack, base, room, item,
+        ) {
+            return Refusal { number, place };
         }
     }
-    Step::Refused { number, place }
+    given
 }

@@ -1,5 +1,5 @@
 -- What working a question out, with all those that it needs, asks and promises. It stands here, below the code, for the laws of settling.
-use Rattle.std.specs.Prelude.{◌≡◌, List, [], ℕ, ◌≤◌, ◌<◌, length}
+use Rattle.std.specs.Prelude.{◌≡◌, List, [], ℕ, ◌≤◌, ◌<◌, length, Result, Ok, Err}
 use Rattle.std.proofs.Math.Option.{none, some}
 use Rattle.std.proofs.Math.ListN.{get_elem?}
 use Rattle.answers.specs.Ask.{Trail, lookup}
@@ -15,6 +15,7 @@ use Rattle.rules.specs.Values.{Answer}
 use Rattle.theory_order.specs.Walks.{Ended}
 use Rattle.theory_order.specs.Ready.{unanswered}
 use Rattle.theory_order.specs.Clauses.{Task, tree_of, questions_of, KeptOf, work_c}
+use Rattle.text_chars.specs.declared.Refusal.{Refusal as Refused}
 use Rattle.read_numbering.specs.Clauses.{AsRead}
 use Rattle.eval_writer.specs.Clauses.{Room}
 use Rattle.eval_writer.specs.Copies.Contracts.{most_bytes}
@@ -25,7 +26,6 @@ use Rattle.eval_state.specs.Later.{Later}
 use Rattle.eval_question_laws.specs.Clauses.{Fits}
 use Rattle.eval_trail.specs.Clauses.{Holding}
 use Rattle.eval_trail.specs.declared.Progress.{Progress}
-use Rattle.eval_trail.specs.declared.Step.{Step}
 
 -- ---- what is lent
 
@@ -85,10 +85,10 @@ module _ {T B E w room trail text : List ℕ} {base b : ℕ} {p : Progress} {bud
     pub holding : Holding a.t a.key a.items T' B' trail' text' p' [] S' n'
     pub later : Later T B a.S T' B' S'
 
-  abbrev pub Works : Step → Type 0
-  Works (Step.On p') = WorkedOut p'
-  Works (Step.Refused number place) = RefusedAs (work_c a.t b a.S a.n) number place.0
+  abbrev pub Works : Result Progress Refused → Type 0
+  Works (Ok p') = WorkedOut p'
+  Works (Err x) = RefusedAs (work_c a.t b a.S a.n) x.number x.place.0
 
-pub record WorkIs (E : List ℕ) (base b : ℕ) (p : Progress) (budget : ℕ) (T T' B B' w w' trail trail' text text' : List ℕ) (r : Step) : Type 0 where
+pub record WorkIs (E : List ℕ) (base b : ℕ) (p : Progress) (budget : ℕ) (T T' B B' w w' trail trail' text text' : List ℕ) (r : Result Progress Refused) : Type 0 where
   pub below : Below base w w'
   pub is : {room : List ℕ} (a : WorkAsked T B E w room trail text base b p budget) → Works a T' B' trail' text' r

@@ -4,6 +4,7 @@ use mathlib.Core.List.{List, []}
 use Prim.Native.Nat.{ℕ, ◌≤◌}
 use native.Mathlib.Omega.{arith}
 use lib.ListN.{length}
+use Rattle.std.specs.Prelude.{Result, Ok, Err}
 use Rattle.answers.specs.Ask.{lookup}
 use Rattle.rules.specs.Tree.{object, array, Root, fields, elements, root_node}
 use Rattle.rules.specs.Layers.{written}
@@ -13,13 +14,13 @@ use Rattle.theory.specs.Numbering.{numbers-below}
 use Rattle.theory_order.specs.Fitting.{Plain}
 use Rattle.theory_order.specs.Clauses.{Task, tree_of}
 use Rattle.theory_order.specs.Resolving.{kept-start}
+use Rattle.text_chars.specs.declared.Refusal.{Refusal}
 use Rattle.eval_memory.specs.Finished.{Memory}
 use Rattle.eval_memory.specs.Tables.{WrittenAt, Shows}
 use Rattle.eval_state.specs.Documents.{root-written}
 use Rattle.eval_frames.specs.Weights.{most_weight}
 use Rattle.eval_frames.specs.Shows.{used_of, written-used}
 use Rattle.eval_trail.specs.declared.Progress.{Progress}
-use Rattle.eval_trail.specs.declared.Step.{Step}
 use Rattle.eval_settle_laws.specs.declared.Need.{Need}
 use Rattle.eval_settle_laws.specs.Ground.{Lasting, LayerFits}
 use Rattle.eval_settle_laws.specs.Given.{Given, ground_of, sound_of}
@@ -89,14 +90,14 @@ module _ {T B E w room trail text : List ℕ} {p : Progress} {budget : ℕ} (a :
     pub root-one : OneAsked T B E x room trail text 0 need p budget
     root-one = one
 
-pub root_is : {E : List ℕ} {p : Progress} {budget : ℕ} {T T' B B' w x w' trail trail' text text' : List ℕ} {need : Need} {r : Step} → LayerIs T B 0 0 w x need
+pub root_is : {E : List ℕ} {p : Progress} {budget : ℕ} {T T' B B' w x w' trail trail' text text' : List ℕ} {need : Need} {r : Result Progress Refusal} → LayerIs T B 0 0 w x need
     → OneIs E 0 need p budget 65 T T' B B' x w' trail trail' text text' r → RootIs E p budget T T' B B' w trail trail' text text' r
 root_is {E} {p} {budget} {T} {T'} {B} {B'} {w} {x} {trail = trail} {trail'} {text} {text'} {need} {r} N f = record { is = λ a. go a r (f.is (one a N)) }
   where
-    go : {room : List ℕ} (a : RootAsked T B E w room trail text p budget) (r : Step)
+    go : {room : List ℕ} (a : RootAsked T B E w room trail text p budget) (r : Result Progress Refusal)
         → Settles (given a x N.left.len) (need_c a.t 65 need (one a N).inner [] 0) (begins need) T' B' trail' text' r → RootSettles a T' B' trail' text' r
-    go a (Step.On p') s = record { S = s.S'; n = s.n'; is = (N.is (layer a)).is 65 ∙ s.is; holding = s.come.holding }
-    go a (Step.Refused number place) s =
+    go a (Ok p') s = record { S = s.S'; n = s.n'; is = (N.is (layer a)).is 65 ∙ s.is; holding = s.come.holding }
+    go a (Err x) s =
         record { refusal = s.refusal; is = (N.is (layer a)).is 65 ∙ s.is; its-number = s.its-number; its-place = s.its-place }
 
 pub ruleset roots = (root-layer, root-one, root_is)

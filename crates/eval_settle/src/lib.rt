@@ -9,9 +9,10 @@ ghost use Rattle.eval_settle_laws.specs.Clauses.{OneAsked, OneIs, AllAsked, AllI
 
 use eval_needs::{need_at, need_of_layer};
 use eval_settle_laws::{Need, Span};
-use eval_trail::{Progress, Step};
+use eval_trail::Progress;
 use eval_values::LEVELS;
 use eval_work::work;
+use text_chars::Refusal;
 
 // The root is the first item.
 const ROOT: usize = 0;
@@ -32,7 +33,7 @@ fn settle_one(
     at: Progress,
     budget: usize,
     levels: usize,
-) -> Step
+) -> Result<Progress, Refusal>
     requires { OneAsked table.old bytes.old env.now stack.old room.old trail.old text.old top need at budget
         × (list_room ≤ length list.old) }
     ensures { OneIs env.now top need at budget levels
@@ -41,13 +42,13 @@ fn settle_one(
         trail.old trail.new text.old text.new result }
 {
     match need {
-        Need::Nothing => Step::On(at),
+        Need::Nothing => Ok(at),
         Need::Answer(b) => work(
             table, bytes, env, stack, top, room, trail, text, list, b, at, budget,
         ),
         Need::Inside(span) => {
             if levels == 0 {
-                return Step::On(at);
+                return Ok(at);
             }
             settle_all(
                 table,
@@ -82,7 +83,7 @@ fn settle_all(
     at: Progress,
     budget: usize,
     levels: usize,
-) -> Step
+) -> Result<Progress, Refusal>
     requires { AllAsked table.old bytes.old env.now stack.old room.old trail.old text.old span at budget
         × (list_room ≤ length list.old) }
     ensures { AllIs env.now span at budget levels
@@ -97,19 +98,12 @@ fn settle_all(
     while p < end {
         let met = need_at(table, bytes, stack, span, p);
         let need = met.need;
-        match settle_one(
+        state = settle_one(
             table, bytes, env, stack, room, trail, text, list, top, need, state, budget, levels,
-        ) {
-            Step::Refused { number, place } => {
-                return Step::Refused { number, place };
-            }
-            Step::On(on) => {
-                state = on;
-                p = met.next;
-            }
-        }
+        )?;
+        p = met.next;
     }
-    Step::On(state)
+    Ok(state)
 }
 
 /// All that the root's value needs, in its order.
@@ -124,7 +118,7 @@ pub fn settle_root(
     list: &mut [u16],
     at: Progress,
     budget: usize,
-) -> Step
+) -> Result<Progress, Refusal>
     requires { RootAsked table.old bytes.old env.now stack.old room.old trail.old text.old at budget
         × (list_room ≤ length list.old) }
     ensures { RootIs env.now at budget

@@ -1,6 +1,6 @@
 -- What settling asks and promises: of each function the definition of the order that it computes, from the trail and the count that the
 -- memory holds on.
-use Rattle.std.specs.Prelude.{◌≡◌, List, [], ℕ, ◌+◌, ◌≤◌, length}
+use Rattle.std.specs.Prelude.{◌≡◌, List, [], ℕ, ◌+◌, ◌≤◌, length, Result, Ok, Err}
 use Rattle.answers.specs.Ask.{Trail}
 use Rattle.answers.specs.Resolve.{answer}
 use Rattle.rules.specs.Bytes.{Text}
@@ -9,13 +9,13 @@ use Rattle.rules.specs.Refusals.{Refusal}
 use Rattle.rules.specs.Values.{Answer}
 use Rattle.theory_order.specs.Walks.{Ended}
 use Rattle.theory_order.specs.Clauses.{Task, settle_root_c}
+use Rattle.text_chars.specs.declared.Refusal.{Refusal as Refused}
 use Rattle.eval_writer.specs.Clauses.{Room}
 use Rattle.eval_writer.specs.Copies.Contracts.{most_bytes}
 use Rattle.eval_stack.specs.Model.{Work}
 use Rattle.eval_value_laws.specs.Clauses.{Left}
 use Rattle.eval_trail.specs.Clauses.{Holding}
 use Rattle.eval_trail.specs.declared.Progress.{Progress}
-use Rattle.eval_trail.specs.declared.Step.{Step}
 use Rattle.eval_question_laws.specs.Work.{Tasked, RefusedAs}
 use Rattle.eval_settle_laws.specs.declared.Need.{Need}
 use Rattle.eval_settle_laws.specs.declared.Span.{Span}
@@ -35,9 +35,9 @@ module _ {T B E w room trail text : List ℕ} {p : Progress} {budget : ℕ} (g :
     pub come : Come g T' B' trail' text' p' S' n'
     pub more : g.n + least ≤ n'
 
-  abbrev pub Settles : Step → Type 0
-  Settles (Step.On p') = Settled p'
-  Settles (Step.Refused number place) = RefusedAs e number place.0
+  abbrev pub Settles : Result Progress Refused → Type 0
+  Settles (Ok p') = Settled p'
+  Settles (Err x) = RefusedAs e x.number x.place.0
 
 -- ---- what one place needs; the stack is free from top on
 
@@ -47,7 +47,7 @@ pub record OneAsked (T B E w room trail text : List ℕ) (top : ℕ) (need : Nee
   pub inner : Rest
   pub shows : NeedShows (ground_of given) w top need inner
 
-pub record OneIs (E : List ℕ) (top : ℕ) (need : Need) (p : Progress) (budget levels : ℕ) (T T' B B' w w' trail trail' text text' : List ℕ) (r : Step) : Type 0 where
+pub record OneIs (E : List ℕ) (top : ℕ) (need : Need) (p : Progress) (budget levels : ℕ) (T T' B B' w w' trail trail' text text' : List ℕ) (r : Result Progress Refused) : Type 0 where
   pub left : Left top w w'
   pub is : {room : List ℕ} (a : OneAsked T B E w room trail text top need p budget)
       → Settles a.given (need_c a.given.t levels need a.inner a.given.S a.given.n) (begins need) T' B' trail' text' r
@@ -59,7 +59,7 @@ pub record AllAsked (T B E w room trail text : List ℕ) (s : Span) (p : Progres
   pub rest : Rest
   pub at : RestFrom (ground_of given) w s.kind s.from s.end s.top rest
 
-pub record AllIs (E : List ℕ) (s : Span) (p : Progress) (budget levels : ℕ) (T T' B B' w w' trail trail' text text' : List ℕ) (r : Step) : Type 0 where
+pub record AllIs (E : List ℕ) (s : Span) (p : Progress) (budget levels : ℕ) (T T' B B' w w' trail trail' text text' : List ℕ) (r : Result Progress Refused) : Type 0 where
   pub left : Left s.top w w'
   pub is : {room : List ℕ} (a : AllAsked T B E w room trail text s p budget)
       → Settles a.given (settle_rest_c a.given.t levels a.rest a.given.S a.given.n) 0 T' B' trail' text' r
@@ -85,9 +85,9 @@ pub record RootSettled {T B E w room trail text : List ℕ} {p : Progress} {budg
   pub is : settle_root_c a.t ≡ answer tt S n
   pub holding : Holding a.t a.key a.items T' B' trail' text' p' [] S n
 
-abbrev pub RootSettles : {T B E w room trail text : List ℕ} {p : Progress} {budget : ℕ} (a : RootAsked T B E w room trail text p budget) (T' B' trail' text' : List ℕ) → Step → Type 0
-RootSettles a T' B' trail' text' (Step.On p') = RootSettled a T' B' trail' text' p'
-RootSettles a T' B' trail' text' (Step.Refused number place) = RefusedAs (settle_root_c a.t) number place.0
+abbrev pub RootSettles : {T B E w room trail text : List ℕ} {p : Progress} {budget : ℕ} (a : RootAsked T B E w room trail text p budget) (T' B' trail' text' : List ℕ) → Result Progress Refused → Type 0
+RootSettles a T' B' trail' text' (Ok p') = RootSettled a T' B' trail' text' p'
+RootSettles a T' B' trail' text' (Err x) = RefusedAs (settle_root_c a.t) x.number x.place.0
 
-pub record RootIs (E : List ℕ) (p : Progress) (budget : ℕ) (T T' B B' w trail trail' text text' : List ℕ) (r : Step) : Type 0 where
+pub record RootIs (E : List ℕ) (p : Progress) (budget : ℕ) (T T' B B' w trail trail' text text' : List ℕ) (r : Result Progress Refused) : Type 0 where
   pub is : {room : List ℕ} (a : RootAsked T B E w room trail text p budget) → RootSettles a T' B' trail' text' r

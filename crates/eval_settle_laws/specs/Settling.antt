@@ -1,5 +1,5 @@
 -- A law for each place where settling returns, for each turn of its loop, and for what is lent on.
-use Rattle.std.specs.Prelude.{◌≡◌, ℕ, suc, ◌+◌, ◌-◌, ◌≤◌, ◌<◌, length}
+use Rattle.std.specs.Prelude.{◌≡◌, ℕ, suc, ◌+◌, ◌-◌, ◌≤◌, ◌<◌, length, Result, Ok, Err}
 use Rattle.std.proofs.Math.Path.{refl, ap}
 use Rattle.std.proofs.Common.{sym, subst, ◌∙◌, arith}
 use mathlib.Core.List.{List}
@@ -13,7 +13,7 @@ use Rattle.rules.specs.Values.{Answer}
 use Rattle.theory_order.specs.Walks.{Ended}
 use Rattle.theory_order.specs.Clauses.{settle_keys_c, settle_elements_c}
 use Rattle.theory_order.specs.SettleLaws as order
-use Rattle.text_chars.specs.declared.DocAt.{DocAt}
+use Rattle.text_chars.specs.declared.Refusal.{Refusal as Refused}
 use Rattle.eval_nodes.specs.Model.{member_at}
 use Rattle.eval_nodes.specs.declared.Member.{Member}
 use Rattle.eval_groups.specs.Select.Levels.{level-stays, keys_none, keys-stay}
@@ -25,7 +25,6 @@ use Rattle.eval_value_laws.specs.Elements.{element-met}
 use Rattle.eval_value_laws.specs.Frames.{left-all, left-then, left-lower}
 use Rattle.eval_value_laws.specs.Nodes.{not-zero}
 use Rattle.eval_trail.specs.declared.Progress.{Progress}
-use Rattle.eval_trail.specs.declared.Step.{Step}
 use Rattle.eval_question_laws.specs.Work.{RefusedAs, WorkAsked, Works, WorkIs}
 use Rattle.eval_settle_laws.specs.declared.Kind.{Kind}
 use Rattle.eval_settle_laws.specs.declared.Span.{Span}
@@ -42,12 +41,12 @@ use Rattle.eval_settle_laws.specs.Clauses.{Settled, Settles, OneAsked, OneIs, Al
 
 module _ {T B E w room trail text : List ℕ} {p : Progress} {budget : ℕ} (g : Given T B E w room trail text p budget) where
   -- nothing is needed
-  stands : {e : Ended Refusal Answer} → e ≡ answer tt g.S g.n → Settles g e 0 T B trail text (Step.On p)
+  stands : {e : Ended Refusal Answer} → e ≡ answer tt g.S g.n → Settles g e 0 T B trail text (Ok p)
   stands z = record { S' = g.S; n' = g.n; is = z; come = come-here g; more = omega arith }
 
 module _ {E : List ℕ} {top : ℕ} {need : Need} {p : Progress} {budget : ℕ} {T B w trail text : List ℕ} where
-  pub one-nothing : {levels : ℕ} → need ≡ Need.Nothing → OneIs E top need p budget levels T T B B w w trail trail text text (Step.On p)
-  one-nothing {levels} e = subst (λ (x : Need). OneIs E top x p budget levels T T B B w w trail trail text text (Step.On p)) (sym e)
+  pub one-nothing : {levels : ℕ} → need ≡ Need.Nothing → OneIs E top need p budget levels T T B B w w trail trail text text (Ok p)
+  one-nothing {levels} e = subst (λ (x : Need). OneIs E top x p budget levels T T B B w w trail trail text text (Ok p)) (sym e)
       (record { left = left-all; is = λ a. stands a.given refl })
 
   -- an answer
@@ -74,24 +73,24 @@ module _ {E : List ℕ} {top : ℕ} {need : Need} {p : Progress} {budget : ℕ} 
     pub one-asks : {room : List ℕ} → OneAsked T B E w room trail text top need p budget → WorkAsked T B E w room trail text top b p budget
     one-asks a = asked a
 
-    pub one-works : {levels : ℕ} {T' B' w' trail' text' : List ℕ} {r : Step} → WorkIs E top b p budget T T' B B' w w' trail trail' text text' r → length w' ≡ length w
+    pub one-works : {levels : ℕ} {T' B' w' trail' text' : List ℕ} {r : Result Progress Refused} → WorkIs E top b p budget T T' B B' w w' trail trail' text text' r → length w' ≡ length w
         → OneIs E top need p budget levels T T' B B' w w' trail trail' text text' r
     one-works {levels} {T'} {B'} {w'} {trail'} {text'} {r} W len = record { left = record { below = W.below; len = len }; is = λ a. rw e (go a r (W.is (asked a))) }
       where
-        go : {room : List ℕ} (a : OneAsked T B E w room trail text top need p budget) (r : Step) → Works (asked a) T' B' trail' text' r
+        go : {room : List ℕ} (a : OneAsked T B E w room trail text top need p budget) (r : Result Progress Refused) → Works (asked a) T' B' trail' text' r
             → Settles a.given (need_c a.given.t levels (Need.Answer b) a.inner a.given.S a.given.n) 1 T' B' trail' text' r
-        go a (Step.On p') x = record {
+        go a (Ok p') x = record {
           S' = x.S';
           n' = x.n';
           is = x.is;
           come = record { kept = x.kept; grows = x.grows; holding = x.holding; later = x.later };
           more = omega (arith, x.more);
         }
-        go a (Step.Refused number place) x = record { refusal = x.refusal; is = x.is; its-number = x.its-number; its-place = x.its-place }
+        go a (Err y) x = record { refusal = x.refusal; is = x.is; its-number = x.its-number; its-place = x.its-place }
 
   -- what is inside
   module _ {s : Span} (e : need ≡ Need.Inside s) where
-    pub one-cut : {levels : ℕ} → levels ≡ 0 → OneIs E top need p budget levels T T B B w w trail trail text text (Step.On p)
+    pub one-cut : {levels : ℕ} → levels ≡ 0 → OneIs E top need p budget levels T T B B w w trail trail text text (Ok p)
     one-cut {levels} z = record { left = left-all; is = λ a. rw (e, z) (stands a.given refl) }
 
     inside-shows : {room : List ℕ} (a : OneAsked T B E w room trail text top need p budget) → NeedShows (ground_of a.given) w top (Need.Inside s) a.inner
@@ -103,7 +102,7 @@ module _ {E : List ℕ} {top : ℕ} {need : Need} {p : Progress} {budget : ℕ} 
     pub one-all : {room : List ℕ} → OneAsked T B E w room trail text top need p budget → AllAsked T B E w room trail text s p budget
     one-all a = all_asked a
 
-    pub one_inside : {room : List ℕ} {levels : ℕ} → OneAsked T B E w room trail text top need p budget → (levels ≡ 0 → ⊥) → {T' B' w' trail' text' : List ℕ} {r : Step}
+    pub one_inside : {room : List ℕ} {levels : ℕ} → OneAsked T B E w room trail text top need p budget → (levels ≡ 0 → ⊥) → {T' B' w' trail' text' : List ℕ} {r : Result Progress Refused}
         → AllIs E s p budget (levels - 1) T T' B B' w w' trail trail' text text' r → OneIs E top need p budget levels T T' B B' w w' trail trail' text text' r
     one_inside {levels = levels} A some {T'} {B'} {w'} {trail'} {text'} {r} N = record {
       left = left-lower (inside-shows A).0 N.left;
@@ -221,7 +220,7 @@ module _ {T₀ B₀ E w₀ room₀ trail₀ text₀ : List ℕ} {s : Span} {p₀
       now-given x l = given-on a.given here.come w x here.len l
 
     -- no place is left
-    pub all_end : s.end ≤ i → AllIs E s p₀ budget levels T₀ T B₀ B w₀ w trail₀ trail text₀ text (Step.On p)
+    pub all_end : s.end ≤ i → AllIs E s p₀ budget levels T₀ T B₀ B w₀ w trail₀ trail text₀ text (Ok p)
     all_end h = record {
       left = I.left;
       is = λ {room = y} a.
@@ -266,7 +265,7 @@ module _ {T₀ B₀ E w₀ room₀ trail₀ text₀ : List ℕ} {s : Span} {p₀
       pub all_one : AllAsked T₀ B₀ E w₀ room₀ trail₀ text₀ s p₀ budget → OneAsked T B E w' room trail text s.top m.need p budget
       all_one A = one_of A room I.same-room
 
-      module _ {T' B' w'' trail' text' : List ℕ} {r : Step}
+      module _ {T' B' w'' trail' text' : List ℕ} {r : Result Progress Refused}
           (F : OneIs E s.top m.need p budget levels T T' B B' w' w'' trail trail' text text' r) where
         -- first what is needed here, then the rest
         then : {y : List ℕ} (a : AllAsked T₀ B₀ E w₀ y trail₀ text₀ s p₀ budget) {e : Ended Refusal Answer}
@@ -275,16 +274,15 @@ module _ {T₀ B₀ E w₀ room₀ trail₀ text₀ : List ℕ} {s : Span} {p₀
         then a z =
             (here a).remains ∙ (met a).is levels ∙ ap (λ (q : Ended Refusal Answer). after q (λ _ S' n'. settle_rest_c a.given.t levels (met a).left S' n')) z
 
-        pub all-refused : {number : ℕ} {place : DocAt} → r ≡ Step.Refused number place
-            → AllIs E s p₀ budget levels T₀ T' B₀ B' w₀ w'' trail₀ trail' text₀ text' (Step.Refused number place)
-        all-refused {number} {place} f = record {
+        pub all-refused : {q : Refused} → r ≡ Err q → AllIs E s p₀ budget levels T₀ T' B₀ B' w₀ w'' trail₀ trail' text₀ text' (Err q)
+        all-refused {q} f = record {
           left = left-then I.left (left-then N.left F.left);
           is = λ {room = y} a.
-              let z : RefusedAs (need_c a.given.t levels m.need (met a).inner (here a).S (here a).n) number place.0 = rw f at (F.is (one_of a y refl)) in
+              let z : RefusedAs (need_c a.given.t levels m.need (met a).inner (here a).S (here a).n) q.number q.place.0 = rw f at (F.is (one_of a y refl)) in
               record { refusal = z.refusal; is = then a z.is; its-number = z.its-number; its-place = z.its-place };
         }
 
-        module _ {p' : Progress} (f : r ≡ Step.On p') where
+        module _ {p' : Progress} (f : r ≡ Ok p') where
           settled : {y : List ℕ} (a : AllAsked T₀ B₀ E w₀ y trail₀ text₀ s p₀ budget)
               → Settled (one_of a y refl).given (need_c a.given.t levels m.need (met a).inner (here a).S (here a).n) (begins m.need) T' B' trail' text' p'
           settled {y} a = rw f at (F.is (one_of a y refl))

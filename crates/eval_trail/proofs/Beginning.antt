@@ -9,6 +9,7 @@ use lib.Dec.{eqb}
 use lib.ListN.{length, get_or, get_elem?, set}
 use lib.Seq.{get_or-set_same, get_or-set_other}
 use borrow.Author.Tests.{eqb-true, eqb-false}
+use Rattle.std.specs.Prelude.{Ok, Err}
 use Rattle.answers.specs.Ask.{Trail}
 use Rattle.answers.specs.Theory.Fuel.{begun}
 use Rattle.rules.specs.Bytes.{Text}
@@ -26,9 +27,9 @@ use Rattle.eval_state.specs.Memories.{begun_at}
 use Rattle.eval_state.specs.Documents.{DocumentIn}
 use Rattle.eval_state.specs.Later.{later-marked, state-later}
 use Rattle.text_chars.specs.declared.DocAt.{DocAt}
+use Rattle.text_chars.specs.Cursor.{refusal}
 use Rattle.eval_trail.specs.Clauses.{mark_of, PlaceIs, BeginAsked, BeginIs}
 use Rattle.eval_trail.specs.declared.Progress.{Progress}
-use Rattle.eval_trail.specs.declared.Step.{Step}
 
 -- ---- the place
 
@@ -68,7 +69,7 @@ mark_set T S stack b c l m = go (eqb b c) refl ∙ ap mark_of (sym (begun-push S
 -- ---- the ends
 
 module _ {T : List ℕ} {b budget m : ℕ} {p : Progress} {place : DocAt} (A : BeginAsked T b) (P : PlaceIs T b place.0) (R : ReadIs T (begun_at + b) m) where
-  pub begin-circular : (m ≡ 0 → ⊥) → BeginIs b p budget T T (Step.Refused 10 place)
+  pub begin-circular : (m ≡ 0 → ⊥) → BeginIs b p budget T T (Err (refusal 10 place))
   begin-circular f = record {
     is = λ t key items B trail text stack S n e l new H.
         let y = P.is ∙ first-byte H.state.document b l in (
@@ -78,7 +79,7 @@ module _ {T : List ℕ} {b budget m : ℕ} {p : Progress} {place : DocAt} (A : B
         );
   }
 
-  pub begin-excess : m ≡ 0 → budget ≤ p.begun → BeginIs b p budget T T (Step.Refused 12 place)
+  pub begin-excess : m ≡ 0 → budget ≤ p.begun → BeginIs b p budget T T (Err (refusal 12 place))
   begin-excess f h = record {
     is = λ t key items B trail text stack S n e l new H.
         let y = P.is ∙ first-byte H.state.document b l in
@@ -90,7 +91,7 @@ module _ {T : List ℕ} {b budget m : ℕ} {p : Progress} {place : DocAt} (A : B
   }
 
   pub begin-free : m ≡ 0 → p.begun < budget
-      → BeginIs b p budget T (set T (begun_at + b) 1) (Step.On (record { used = p.used; text = p.text; begun = p.begun + 1 }))
+      → BeginIs b p budget T (set T (begun_at + b) 1) (Ok (record { used = p.used; text = p.text; begun = p.begun + 1 }))
   begin-free f h = record {
     is = λ t key items B trail text stack S n e l new H.
         let c = H.count in

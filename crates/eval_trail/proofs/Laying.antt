@@ -9,6 +9,7 @@ use lib.Dec.{leb}
 use lib.ListN.{length, get_or, drop, length-append, length-drop}
 use lib.Seq.{get_or-set_other}
 use borrow.Author.Tests.{leb-true}
+use Rattle.std.specs.Prelude.{Ok, Err}
 use Rattle.answers.specs.Ask.{Trail}
 use Rattle.rules.specs.Bytes.{Text}
 use Rattle.rules.specs.Values.{Answer}
@@ -20,6 +21,7 @@ use Rattle.sheet_kept.specs.Kept.{Held, named}
 use Rattle.sheet_sizes.specs.Clauses.{Small, EntryFitsIs}
 use Rattle.sheet_sizes.specs.declared.Sizes.{Sizes}
 use Rattle.doc_items.specs.Room.{answers_at}
+use Rattle.text_chars.specs.Cursor.{refusal}
 use Rattle.eval_writer.specs.declared.Out.{Out}
 use Rattle.eval_store.specs.Entries.Contracts.{AddAsked, AddIs, AddUndefinedIs}
 use Rattle.eval_state.specs.Memories.{begun_at}
@@ -27,7 +29,6 @@ use Rattle.eval_state.specs.Counters.{records-are, texts-are}
 use Rattle.eval_state.specs.Clauses.{Finished, AnswerAsked, AnswerIs, UndefinedAsked, UndefinedIs}
 use Rattle.eval_trail.specs.Clauses.{mark_of, Holding, sizes, RoomAsked, RoomIs, MoreIs, LayAsked, LayIs, NoneAsked, NoneIs}
 use Rattle.eval_trail.specs.declared.Progress.{Progress}
-use Rattle.eval_trail.specs.declared.Step.{Step}
 
 -- an answer of no records
 abbrev pub nothing : Out
@@ -96,12 +97,12 @@ module _ {T B room : List ℕ} {o : Out} {b : ℕ} {p : Progress} {trail text : 
       ap (λ (m : ℕ). trail_fits m t.text_room ((b, some (named key v)) ∷ S)) (sym H.trail-room)
       ∙ ap (λ (m : ℕ). trail_fits (length trail) m ((b, some (named key v)) ∷ S)) (sym H.text-room) ∙ sym f
 
-  pub lay-full : r ≡ false → LayIs room o b p T T B B trail trail text text (Step.Refused 14 (record { 0 = 0 }))
+  pub lay-full : r ≡ false → LayIs room o b p T T B B trail trail text text (Err (refusal 14 (record { 0 = 0 })))
   lay-full e = record { is = λ t key items stack S n v H X. (tested v H X ∙ e, refl, refl, refl, refl) }
 
   pub lay_done : {T' B' trail' text' : List ℕ} → r ≡ true → AddIs room o b p.used.0 p.text.0 trail trail' text text'
       → AnswerIs room o b p.used.0 p.text.0 T T' B B' → {q : Progress} → MoreIs p o q
-      → LayIs room o b p T T' B B' trail trail' text text' (Step.On q)
+      → LayIs room o b p T T' B B' trail trail' text text' (Ok q)
   unfolding trail_size trail_text_size entry_size answer_text_size
   lay_done {T'} {B'} {trail'} {text'} e D K {q} N = record {
     is = λ t key items stack S n v H X.
@@ -158,11 +159,11 @@ module _ {T : List ℕ} {b : ℕ} {p : Progress} {trail text : List ℕ} {r : Bo
       ap (λ (m : ℕ). trail_fits m t.text_room ((b, none) ∷ S)) (sym H.trail-room)
       ∙ ap (λ (m : ℕ). trail_fits (length trail) m ((b, none) ∷ S)) (sym H.text-room) ∙ sym f
 
-  pub none-full : r ≡ false → NoneIs b p T T trail trail text (Step.Refused 14 (record { 0 = 0 }))
+  pub none-full : r ≡ false → NoneIs b p T T trail trail text (Err (refusal 14 (record { 0 = 0 })))
   none-full e = record { is = λ t key items B stack S n H. (none-tested H ∙ e, refl, refl, refl, refl) }
 
   pub none_done : {T' trail' : List ℕ} → r ≡ true → AddUndefinedIs b p.used.0 trail trail' → UndefinedIs b T T' → {q : Progress}
-      → MoreIs p nothing q → NoneIs b p T T' trail trail' text (Step.On q)
+      → MoreIs p nothing q → NoneIs b p T T' trail trail' text (Ok q)
   unfolding trail_size trail_text_size entry_size answer_text_size
   none_done {T'} {trail'} e D K {q} N = record {
     is = λ t key items B stack S n H.

@@ -1,6 +1,6 @@
 -- What beginning and laying promise: what holds between two turns of the order goes on to hold, and the rules' tests came out so. A refusal leaves
 -- the job's memory as it is: the questions that have begun are run against it once more.
-use Rattle.std.specs.Prelude.{◌≡◌, Bool, true, false, List, ◌∷◌, ℕ, suc, ◌+◌, ◌*◌, ◌≤◌, ◌<◌, length, get_or}
+use Rattle.std.specs.Prelude.{◌≡◌, Bool, true, false, List, ◌∷◌, ℕ, suc, ◌+◌, ◌*◌, ◌≤◌, ◌<◌, length, get_or, Result, Ok, Err}
 use Rattle.std.proofs.Math.Option.{none, some}
 use Rattle.answers.specs.Ask.{Trail, lookup}
 use Rattle.answers.specs.Theory.Fuel.{begun}
@@ -14,6 +14,7 @@ use Rattle.sheet_kept.specs.Kept.{Held, named}
 use Rattle.sheet_sizes.specs.Clauses.{EntryFitsIs}
 use Rattle.sheet_sizes.specs.declared.Sizes.{Sizes}
 use Rattle.read_numbering.specs.Clauses.{item_of}
+use Rattle.text_chars.specs.declared.Refusal.{Refusal}
 use Rattle.eval_writer.specs.declared.Out.{Out}
 use Rattle.eval_store.specs.Values.Contracts.{Full}
 use Rattle.eval_store.specs.Entries.Contracts.{TrailIs}
@@ -22,7 +23,6 @@ use Rattle.eval_state.specs.State.{State}
 use Rattle.eval_state.specs.Later.{Later}
 use Rattle.eval_state.specs.Clauses.{Finished}
 use Rattle.eval_trail.specs.declared.Progress.{Progress}
-use Rattle.eval_trail.specs.declared.Step.{Step}
 
 abbrev pub mark_of : Bool → ℕ
 mark_of true = 1
@@ -57,12 +57,12 @@ pub record BeginAsked (T : List ℕ) (b : ℕ) : Type 0 where
   pub number : b < max_unresolved
   pub table : job_table ≤ length T
 
-abbrev pub Begins : (t : Task) (key : ℕ → Text) (items : ℕ) (T T' B trail text : List ℕ) (stack : List ℕ) (S : Trail Answer) (n b : ℕ) → Step → Type 0
-Begins t key items T T' B trail text stack S n b (Step.On q) =
+abbrev pub Begins : (t : Task) (key : ℕ → Text) (items : ℕ) (T T' B trail text : List ℕ) (stack : List ℕ) (S : Trail Answer) (n b : ℕ) → Result Progress Refusal → Type 0
+Begins t key items T T' B trail text stack S n b (Ok q) =
     (bar_of t stack n b ≡ none) × Holding t key items T' B trail text q (b ∷ stack) S (suc n) × Later T B S T' B S
-Begins t key items T T' B trail text stack S n b (Step.Refused number place) = (bar_of t stack n b ≡ some (placed number place.0)) × (T' ≡ T)
+Begins t key items T T' B trail text stack S n b (Err x) = (bar_of t stack n b ≡ some (placed x.number x.place.0)) × (T' ≡ T)
 
-pub record BeginIs (b : ℕ) (p : Progress) (budget : ℕ) (T T' : List ℕ) (r : Step) : Type 0 where
+pub record BeginIs (b : ℕ) (p : Progress) (budget : ℕ) (T T' : List ℕ) (r : Result Progress Refusal) : Type 0 where
   pub is : (t : Task) (key : ℕ → Text) (items : ℕ) (B trail text stack : List ℕ) (S : Trail Answer) (n : ℕ) → budget ≡ t.budget → b < questions_of t
       → lookup S b ≡ none → Holding t key items T B trail text p stack S n → Begins t key items T T' B trail text stack S n b r
 
@@ -87,12 +87,12 @@ pub record MoreIs (p : Progress) (o : Out) (r : Progress) : Type 0 where
   pub count : r.begun ≡ p.begun
 
 -- an answer's entry is laid, or it does not fit
-abbrev pub Lays : (t : Task) (key : ℕ → Text) (items : ℕ) (T T' B B' trail text stack : List ℕ) (S : Trail Answer) (n b : ℕ) (a : Answer) → Step → Type 0
-Lays t key items T T' B B' trail text stack S n b a (Step.On q) =
+abbrev pub Lays : (t : Task) (key : ℕ → Text) (items : ℕ) (T T' B B' trail text stack : List ℕ) (S : Trail Answer) (n b : ℕ) (a : Answer) → Result Progress Refusal → Type 0
+Lays t key items T T' B B' trail text stack S n b a (Ok q) =
     (trail_fits t.trail_room t.text_room ((b, a) ∷ S) ≡ true) × Holding t key items T' B' trail text q stack ((b, a) ∷ S) n
     × Later T B S T' B' ((b, a) ∷ S)
-Lays t key items T T' B B' trail text stack S n b a (Step.Refused number place) =
-    (trail_fits t.trail_room t.text_room ((b, a) ∷ S) ≡ false) × (number ≡ 14) × (place.0 ≡ 0) × (T' ≡ T) × (B' ≡ B)
+Lays t key items T T' B B' trail text stack S n b a (Err x) =
+    (trail_fits t.trail_room t.text_room ((b, a) ∷ S) ≡ false) × (x.number ≡ 14) × (x.place.0 ≡ 0) × (T' ≡ T) × (B' ≡ B)
 
 pub record LayAsked (T B room : List ℕ) (o : Out) (b : ℕ) (p : Progress) (trail text : List ℕ) : Type 0 where
   pub full : Full room o
@@ -104,7 +104,7 @@ pub record LayAsked (T B room : List ℕ) (o : Out) (b : ℕ) (p : Progress) (tr
   pub trail-room : length trail ≤ max_room
   pub text-room : length text ≤ max_room
 
-pub record LayIs (room : List ℕ) (o : Out) (b : ℕ) (p : Progress) (T T' B B' trail trail' text text' : List ℕ) (r : Step) : Type 0 where
+pub record LayIs (room : List ℕ) (o : Out) (b : ℕ) (p : Progress) (T T' B B' trail trail' text text' : List ℕ) (r : Result Progress Refusal) : Type 0 where
   pub is : (t : Task) (key : ℕ → Text) (items : ℕ) (stack : List ℕ) (S : Trail Answer) (n : ℕ) (v : Held) → Holding t key items T B trail text p (b ∷ stack) S n
       → Finished key items T room o v → Lays t key items T T' B B' trail' text' stack S n b (some (named key v)) r
 
@@ -116,6 +116,6 @@ pub record NoneAsked (T : List ℕ) (b : ℕ) (p : Progress) (trail text : List 
   pub texts : p.text.0 ≤ max_room
   pub trail-room : length trail ≤ max_room
 
-pub record NoneIs (b : ℕ) (p : Progress) (T T' trail trail' text : List ℕ) (r : Step) : Type 0 where
+pub record NoneIs (b : ℕ) (p : Progress) (T T' trail trail' text : List ℕ) (r : Result Progress Refusal) : Type 0 where
   pub is : (t : Task) (key : ℕ → Text) (items : ℕ) (B stack : List ℕ) (S : Trail Answer) (n : ℕ) → Holding t key items T B trail text p (b ∷ stack) S n
       → Lays t key items T T' B B trail' text stack S n b none r

@@ -12,7 +12,7 @@ use doc_items::{COLUMN_PLACE, WIDTH, number_at};
 use eval_state::BEGUN;
 use eval_writer::Out;
 use sheet_sizes::{ENTRY, Sizes};
-use text_chars::{DocAt, RecAt, RecLen, TextAt, TextLen};
+use text_chars::{DocAt, RecAt, RecLen, Refusal, TextAt, TextLen};
 
 /// How much of the trail and of the sheet's text is used, and how many unresolved values were begun.
 #[derive(Clone, Copy)]
@@ -20,13 +20,6 @@ pub struct Progress {
     pub used: RecAt,
     pub text: TextAt,
     pub begun: usize,
-}
-
-/// A step goes on, or ends in the number and the place of a refusal.
-#[derive(Clone, Copy)]
-pub enum Step {
-    On(Progress),
-    Refused { number: u8, place: DocAt },
 }
 
 // The mark of an unresolved value that was begun.
@@ -43,32 +36,28 @@ fn place_of(table: &[u16], b: usize) -> DocAt
 }
 
 /// Begins the unresolved value b, which has no answer: 10 if it was begun before, 12 if the budget is spent.
-pub fn begin(table: &mut [u16], b: usize, at: Progress, budget: usize) -> Step
+pub fn begin(table: &mut [u16], b: usize, at: Progress, budget: usize) -> Result<Progress, Refusal>
     requires { BeginAsked table.old b }
     ensures { BeginIs b at budget table.old table.new result }
 {
     let place = place_of(table, b);
     let mark = number_at(table, BEGUN + b);
     if mark != 0 {
-        return Step::Refused {
+        return Err(Refusal {
             number: refusals::CIRCULAR,
             place,
-        };
+        });
     }
-    let used = at.used;
-    let text = at.text;
-    let begun = at.begun;
-    if budget <= begun {
-        return Step::Refused {
+    if budget <= at.begun {
+        return Err(Refusal {
             number: refusals::OVER_BUDGET,
             place,
-        };
+        });
     }
     table[BEGUN + b] = MARK;
-    Step::On(Progress {
-        used,
-        text,
-        begun: begun + 1,
+    Ok(Progress {
+        begun: at.begun + 1,
+        ..at
     })
 }
 
@@ -77,21 +66,17 @@ fn has_room(at: Progress, o: Out, trail: &[u8], text: &[u8]) -> bool
     requires { RoomAsked at o }
     ensures { RoomIs at o trail.now text.now result }
 {
-    let used = at.used;
-    let texts = at.text;
-    let rec = o.rec;
-    let word = o.text;
     let rooms = Sizes {
         rec: RecLen(trail.len()),
         text: TextLen(text.len()),
     };
     let so_far = Sizes {
-        rec: RecLen(used.0),
-        text: TextLen(texts.0),
+        rec: RecLen(at.used.0),
+        text: TextLen(at.text.0),
     };
     let size = Sizes {
-        rec: RecLen(rec.0),
-        text: TextLen(word.0),
+        rec: RecLen(o.rec.0),
+        text: TextLen(o.text.0),
     };
     sheet_sizes::entry_fits(rooms, so_far, size)
 }
@@ -101,14 +86,10 @@ fn with_entry(at: Progress, o: Out) -> Progress
     requires { RoomAsked at o }
     ensures { MoreIs at o result }
 {
-    let used = at.used;
-    let texts = at.text;
-    let rec = o.rec;
-    let word = o.text;
     Progress {
-        used: RecAt(used.0 + ENTRY + rec.0),
-        text: TextAt(texts.0 + word.0),
-        begun: at.begun,
+        used: RecAt(at.used.0 + ENTRY + o.rec.0),
+        text: TextAt(at.text.0 + o.text.0),
+        ..at
     }
 }
 
@@ -122,23 +103,21 @@ pub fn lay_answer(
     at: Progress,
     trail: &mut [u8],
     text: &mut [u8],
-) -> Step
+) -> Result<Progress, Refusal>
     requires { LayAsked table.old bytes.old room.now o b at trail.old text.old }
     ensures { LayIs room.now o b at
         table.old table.new bytes.old bytes.new
         trail.old trail.new text.old text.new result }
 {
     if has_room(at, o, trail, text) {
-        let used = at.used;
-        let texts = at.text;
-        eval_store::entries::add_entry(room, o, b, used, texts, trail, text);
-        eval_state::keep_answer(table, bytes, room, o, b, used, texts);
-        return Step::On(with_entry(at, o));
+        eval_store::entries::add_entry(room, o, b, at.used, at.text, trail, text);
+        eval_state::keep_answer(table, bytes, room, o, b, at.used, at.text);
+        return Ok(with_entry(at, o));
     }
-    Step::Refused {
+    Err(Refusal {
         number: refusals::NO_ROOM,
         place: DocAt(0),
-    }
+    })
 }
 
 /// Lays that b is undefined, and keeps it: 14 if its entry does not fit the trail.
@@ -148,7 +127,7 @@ pub fn lay_undefined(
     at: Progress,
     trail: &mut [u8],
     text: &[u8],
-) -> Step
+) -> Result<Progress, Refusal>
     requires { NoneAsked table.old b at trail.old text.now }
     ensures { NoneIs b at
         table.old table.new trail.old trail.new text.now result }
@@ -158,13 +137,12 @@ pub fn lay_undefined(
         text: TextAt(0),
     };
     if has_room(at, nothing, trail, text) {
-        let used = at.used;
-        eval_store::entries::add_undefined(b, used, trail);
+        eval_store::entries::add_undefined(b, at.used, trail);
         eval_state::keep_undefined(table, b);
-        return Step::On(with_entry(at, nothing));
+        return Ok(with_entry(at, nothing));
     }
-    Step::Refused {
+    Err(Refusal {
         number: refusals::NO_ROOM,
         place: DocAt(0),
-    }
+    })
 }

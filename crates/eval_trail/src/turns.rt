@@ -4,10 +4,11 @@
 ghost use Rattle.std.specs.Prelude.{◌<◌};
 ghost use Rattle.eval_trail.specs.Turns.Contracts.{LaidIs, BegunAsked, BegunIs, TurnAsked, TurnIs, ItemIs};
 
-use crate::{Progress, Step};
+use crate::Progress;
 use codes::limits;
 use doc_items::number_at;
 use eval_results::sizes::Outcome;
+use text_chars::Refusal;
 
 /// The list has the questions that have begun, the newest last, and behind them, for each, the item of the piece at which it goes on, 0 where it has
 /// just begun.
@@ -16,27 +17,20 @@ pub const LIST: usize = 2 * limits::UNRESOLVED;
 /// Where the pieces begin.
 pub const PIECES: usize = limits::UNRESOLVED;
 
-/// After a turn so many questions are in the list, and it has come so far; or the list is empty, or there is a refusal.
+/// After a turn so many questions are in the list, and it has come so far; with none in it the order has ended.
 #[derive(Clone, Copy)]
-pub enum Next {
-    On { count: usize, at: Progress },
-    Ended(Step),
+pub struct Next {
+    pub count: usize,
+    pub at: Progress,
 }
 
 // The newest of n questions was laid: it is taken out.
-fn laid(n: usize, step: Step) -> Next
+fn laid(n: usize, step: Result<Progress, Refusal>) -> Result<Next, Refusal>
     requires { 0 < n }
     ensures { LaidIs n step result }
 {
-    match step {
-        Step::Refused { number, place } => Next::Ended(Step::Refused { number, place }),
-        Step::On(at) => {
-            if n == 1 {
-                return Next::Ended(Step::On(at));
-            }
-            Next::On { count: n - 1, at }
-        }
-    }
+    let at = step?;
+    Ok(Next { count: n - 1, at })
 }
 
 // Question d begins, and is the newest of the list.
@@ -47,21 +41,17 @@ fn begun(
     d: usize,
     at: Progress,
     budget: usize,
-) -> Next
+) -> Result<Next, Refusal>
     requires { BegunAsked table.old list.old n d at budget }
     ensures { BegunIs n d at budget table.old table.new list.old list.new result }
 {
-    match crate::begin(table, d, at, budget) {
-        Step::Refused { number, place } => Next::Ended(Step::Refused { number, place }),
-        Step::On(next) => {
-            list[n] = d as u16;
-            list[PIECES + n] = 0;
-            Next::On {
-                count: n + 1,
-                at: next,
-            }
-        }
-    }
+    let next = crate::begin(table, d, at, budget)?;
+    list[n] = d as u16;
+    list[PIECES + n] = 0;
+    Ok(Next {
+        count: n + 1,
+        at: next,
+    })
 }
 
 /// A turn of the newest of n questions in the list, which came to o; a value stands in the room. What is needed first may begin an empty list.
@@ -76,14 +66,14 @@ pub fn turned(
     budget: usize,
     trail: &mut [u8],
     text: &mut [u8],
-) -> Next
+) -> Result<Next, Refusal>
     requires { TurnAsked table.old bytes.old room.now o list.old n at budget trail.old text.old }
     ensures { TurnIs room.now o n at budget
         table.old table.new bytes.old bytes.new
         list.old list.new trail.old trail.new text.old text.new result }
 {
     match o {
-        Outcome::Refused { number, place } => Next::Ended(Step::Refused { number, place }),
+        Outcome::Refused { number, place } => Err(Refusal { number, place }),
         Outcome::Needs(d) => begun(table, list, n, d, at, budget),
         Outcome::Undefined => {
             let q = number_at(list, n - 1);

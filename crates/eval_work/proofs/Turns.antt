@@ -6,6 +6,7 @@ use Prim.Native.Nat.{ℕ, suc, ◌+◌, ◌-◌, ◌≤◌, ◌<◌}
 use native.Mathlib.Omega.{arith}
 use lib.ListN.{length, get_or, get_elem?, set, length-set}
 use lib.Seq.{get_or-set_same, get_or-set_other}
+use Rattle.std.specs.Prelude.{Result, Ok, Err}
 use Rattle.answers.specs.Ask.{lookup, run, value}
 use Rattle.answers.specs.Resolve.{refused}
 use Rattle.answers.specs.Theory.AheadTurns.{numbers}
@@ -19,7 +20,7 @@ use Rattle.theory_order.specs.Turns.{stacked-length}
 use Rattle.theory_order.specs.Skeletons.{needs_of_all, needs_of_question}
 use Rattle.theory_order.specs.Clauses.{questions_of, work_c}
 use Rattle.theory_order.specs.WorkLaws.{BegunHere, needs_in, first_in, WorkAt, work-done, turn-refuses, turn-lays, turn-full}
-use Rattle.text_chars.specs.declared.DocAt.{DocAt}
+use Rattle.text_chars.specs.declared.Refusal.{Refusal as Refused}
 use Rattle.sheet_kept.specs.Kept.{named}
 use Rattle.eval_state.specs.Later.{later-then}
 use Rattle.eval_writer.specs.Clauses.{Room}
@@ -27,7 +28,6 @@ use Rattle.eval_results.specs.Sizes.Outcomes.{OutcomeWithin}
 use Rattle.eval_results.specs.declared.sizes.Outcome.{Outcome}
 use Rattle.eval_trail.specs.Clauses.{Holding, Begins, Lays, LayIs, NoneIs}
 use Rattle.eval_trail.specs.declared.Progress.{Progress}
-use Rattle.eval_trail.specs.declared.Step.{Step}
 use Rattle.eval_trail.specs.Turns.Contracts.{list_room, pieces_at, newest, Laid, LaidIs, begun_next, begun_list, TurnNeeds, TurnCase, TurnIs}
 use Rattle.eval_trail.specs.declared.turns.Next.{Next}
 use Rattle.eval_outcomes.specs.Newest.Contracts.{begins}
@@ -107,10 +107,11 @@ module _ {T₀ B₀ E w₀ room₀ trail₀ text₀ : List ℕ} {base b : ℕ} {
 
   -- ---- where it leads
 
-  abbrev pub Advanced : (T' B' trail' text' L' : List ℕ) → Outcome → Next → Type 0
-  Advanced T' B' trail' text' L' o (Next.On m p') = Come a T' B' trail' text' L' m p' × (turns_at budget m p' < turns_at budget n p)
-  Advanced T' B' trail' text' L' o (Next.Ended (Step.On p')) = WorkedOut a T' B' trail' text' p'
-  Advanced T' B' trail' text' L' o (Next.Ended (Step.Refused number place)) = Refuses a T' B' L' (older_c o n) number place.0
+  abbrev pub Advanced : (T' B' trail' text' L' : List ℕ) → Outcome → Result Next Refused → Type 0
+  Advanced T' B' trail' text' L' o (Ok t) =
+      (t.count ≡ 0 → WorkedOut a T' B' trail' text' t.at)
+      × ((t.count ≡ 0 → ⊥) → Come a T' B' trail' text' L' t.count t.at × (turns_at budget t.count t.at < turns_at budget n p))
+  Advanced T' B' trail' text' L' o (Err x) = Refuses a T' B' L' (older_c o n) x.number x.place.0
 
   -- the memory is as it was
   refuses-at : {T' B' : List ℕ} {m m' number place : ℕ} → T' ≡ T → B' ≡ B → m ≡ m' → Refuses a T B L m' number place → Refuses a T' B' L m number place
@@ -136,9 +137,9 @@ module _ {T₀ B₀ E w₀ room₀ trail₀ text₀ : List ℕ} {base b : ℕ} {
       bytes = P.later.document.bytes;
     }
 
-    module _ (v : Answer) (e : run (lookup P.S) (rule_of a.t.setting N.q) ≡ value v) (T' B' trail' text' : List ℕ) (o : Outcome) {r : Next} where
-      laid_on : (p' : Progress) → Laid n r (Step.On p')
-          → Lays a.t a.key a.items T T' B B' trail' text' (numbers N.bs) P.S P.count N.q v (Step.On p')
+    module _ (v : Answer) (e : run (lookup P.S) (rule_of a.t.setting N.q) ≡ value v) (T' B' trail' text' : List ℕ) (o : Outcome) {r : Result Next Refused} where
+      laid_on : (p' : Progress) → Laid n r (Ok p')
+          → Lays a.t a.key a.items T T' B B' trail' text' (numbers N.bs) P.S P.count N.q v (Ok p')
           → Advanced T' B' trail' text' L o r
       unfolding turns_at
       laid_on p' k c = go N.bs refl
@@ -150,54 +151,59 @@ module _ {T₀ B₀ E w₀ room₀ trail₀ text₀ : List ℕ} {base b : ℕ} {
           go [] f =
               let z : n ≡ 1 = counted N ∙ ap (λ (l : List BegunHere). suc (length l)) f in
               let d = work-done a.t a.holding.state.document.read b a.S a.n a.low a.new a.kept ((N.q, v) ∷ P.S) P.count (rw f at at) in
-              rw (k.0 z)
-              (record {
-                S' = (N.q, v) ∷ P.S;
-                n' = P.count;
-                is = d.0;
-                kept = d.1;
-                grows = d.2;
-                fewer = d.3;
-                more = N.more;
-                holding = rw f at c.1;
-                later = later-then P.later c.2;
-              })
+              rw k (
+                λ i. record {
+                  S' = (N.q, v) ∷ P.S;
+                  n' = P.count;
+                  is = d.0;
+                  kept = d.1;
+                  grows = d.2;
+                  fewer = d.3;
+                  more = N.more;
+                  holding = rw f at c.1;
+                  later = later-then P.later c.2;
+                },
+                λ g. absurd (g (omega (arith, z))),
+              )
           go (j ∷ bs) f =
               let i : n ≡ suc (suc (length bs)) = counted N ∙ ap (λ (l : List BegunHere). suc (length l)) f in
-              rw (k.1 (λ z. omega arith)) (
-                record {
-                  stands =
-                      record {
-                        begun = N.bs;
-                        S = (N.q, v) ∷ P.S;
-                        count = P.count;
-                        listed = (listed N).2;
-                        many = omega (arith, counted N);
-                        running = at.running;
-                        holding = c.1;
-                        later = later-then P.later c.2;
-                      };
-                  some = omega arith;
-                  at = at;
-                  more = N.more;
-                },
-                omega (arith, c.1.count, H.count),
+              rw k (
+                λ z. absurd (omega (arith, i)),
+                λ z. (
+                  record {
+                    stands =
+                        record {
+                          begun = N.bs;
+                          S = (N.q, v) ∷ P.S;
+                          count = P.count;
+                          listed = (listed N).2;
+                          many = omega (arith, counted N);
+                          running = at.running;
+                          holding = c.1;
+                          later = later-then P.later c.2;
+                        };
+                    some = omega arith;
+                    at = at;
+                    more = N.more;
+                  },
+                  omega (arith, c.1.count, H.count),
+                ),
               )
 
-      laid : older_c o n ≡ n - 1 → (s : Step) → LaidIs n s r
+      laid : older_c o n ≡ n - 1 → (s : Result Progress Refused) → LaidIs n s r
           → Lays a.t a.key a.items T T' B B' trail' text' (numbers N.bs) P.S P.count N.q v s → Advanced T' B' trail' text' L o r
-      laid z (Step.On p') k c = laid_on p' k.is c
-      laid z (Step.Refused number place) k c =
+      laid z (Ok p') k c = laid_on p' k.is c
+      laid z (Err x) k c =
           rw k.is
           (refuses-at c.3 c.4 z
           (before-newest (nowhere 14)
           (turn-full a.t H.state.document.read b a.S a.n N.q N.ss N.bs P.S P.count N.at N.looked v e c.0) c.1 c.2))
 
-  begun : list_room ≤ length L → a.n ≤ P.count → {d : ℕ} (W : Awaited a P.begun P.S P.count d) (T' : List ℕ) (s : Step)
+  begun : list_room ≤ length L → a.n ≤ P.count → {d : ℕ} (W : Awaited a P.begun P.S P.count d) (T' : List ℕ) (s : Result Progress Refused)
       → Begins a.t a.key a.items T T' B trail text (numbers P.begun) P.S P.count d s
       → Advanced T' B trail text (begun_list n d L s) (Outcome.Needs d) (begun_next n s)
   unfolding turns_at
-  begun l rises {d} W T' (Step.On p') c =
+  begun l rises {d} W T' (Ok p') c =
       let at = W.begins c.0 in
       let m = H.state.document.read.at_most in
       let z : n < 256 =
@@ -211,36 +217,39 @@ module _ {T₀ B₀ E w₀ room₀ trail₀ text₀ : List ℕ} {base b : ℕ} {
       let g : get_or (set L₁ (pieces_at + n) 0) (pieces_at + length P.begun) 0 ≡ 0 =
       ap (λ (i : ℕ). get_or (set L₁ (pieces_at + n) 0) (pieces_at + i) 0) (sym P.many) ∙ get_or-set_same L₁ (pieces_at + n) 0 0 (omega arith) in
       let h = listed-set a.t.setting T₀ L P.begun n d (λ k i. (λ e. omega (arith, P.many), λ e. omega arith)) P.listed in (
-        record {
-          stands =
-              record {
-                begun = (d, needs_in a.t d) ∷ P.begun;
-                S = P.S;
-                count = suc P.count;
-                listed = (
-                  f,
-                  record { u = u; its = e; goes = begins g (its-needs a.t.setting d u e) },
-                  listed-set a.t.setting T₀ L₁ P.begun (pieces_at + n) 0 (λ k i. (λ e. omega (arith, P.many), λ e. omega (arith, P.many))) h,
-                );
-                many = omega (arith, P.many);
-                running = at.running;
-                holding = c.1;
-                later = later-then P.later c.2;
-              };
-          some = omega arith;
-          at = at;
-          more = omega arith;
-        },
-        omega (arith, c.1.count, H.count, at.running.afforded, a.budgeted),
+        λ i. absurd (omega (arith, i)),
+        λ j. (
+          record {
+            stands =
+                record {
+                  begun = (d, needs_in a.t d) ∷ P.begun;
+                  S = P.S;
+                  count = suc P.count;
+                  listed = (
+                    f,
+                    record { u = u; its = e; goes = begins g (its-needs a.t.setting d u e) },
+                    listed-set a.t.setting T₀ L₁ P.begun (pieces_at + n) 0 (λ k i. (λ e. omega (arith, P.many), λ e. omega (arith, P.many))) h,
+                  );
+                  many = omega (arith, P.many);
+                  running = at.running;
+                  holding = c.1;
+                  later = later-then P.later c.2;
+                };
+            some = omega arith;
+            at = at;
+            more = omega arith;
+          },
+          omega (arith, c.1.count, H.count, at.running.afforded, a.budgeted),
+        ),
       )
-  begun l rises {d} W T' (Step.Refused number place) c =
+  begun l rises {d} W T' (Err x) c =
       refuses-at c.1 refl refl
       (record {
         S = P.S;
         older = P.begun;
         count = P.count;
-        refusal = placed number place.0;
-        is = W.barred (placed number place.0) c.0;
+        refusal = placed x.number x.place.0;
+        is = W.barred (placed x.number x.place.0) c.0;
         its-number = refl;
         its-place = refl;
         listed = P.listed;
@@ -251,7 +260,7 @@ module _ {T₀ B₀ E w₀ room₀ trail₀ text₀ : List ℕ} {base b : ℕ} {
         bytes = P.later.document.bytes;
       })
 
-  advances : (room : List ℕ) → list_room ≤ length L → a.n ≤ P.count → (T' B' L' trail' text' : List ℕ) (r : Next) (o : Outcome)
+  advances : (room : List ℕ) → list_room ≤ length L → a.n ≤ P.count → (T' B' L' trail' text' : List ℕ) (r : Result Next Refused) (o : Outcome)
       → Due a T room P.begun P.S P.count o → TurnCase room n p budget T T' B B' L L' trail trail' text text' r o → Advanced T' B' trail' text' L' o r
   advances room l rises T' B' L' trail' text' r (Outcome.Done e) N x =
       let v = N.comes in
@@ -294,16 +303,19 @@ module _ {T₀ B₀ E w₀ room₀ trail₀ text₀ : List ℕ} {base b : ℕ} {
       go (Outcome.Needs d) W = tt
       go (Outcome.Refused number place) N = omega (arith, counted a P.stands N)
 
-  module _ {T' B' L' trail' text' : List ℕ} {r : Next} (G : TurnIs room o n p budget T T' B B' L L' trail trail' text text' r) where
+  module _ {T' B' L' trail' text' : List ℕ} {r : Result Next Refused} (G : TurnIs room o n p budget T T' B B' L L' trail trail' text text' r) where
     advanced : Advanced a P.stands T' B' trail' text' L' o r
     advanced = advances a P.stands room l P.rises T' B' L' trail' text' r o P.due G.is
 
-    pub turn_on : {m : ℕ} {p' : Progress} → r ≡ Next.On m p' → Come a T' B' trail' text' L' m p' × (turns_at budget m p' < turns_at budget n p)
-    turn_on f = rw f at advanced
+    module _ {t : Next} (f : r ≡ Ok t) where
+      goes-on : Advanced a P.stands T' B' trail' text' L' o (Ok t)
+      goes-on = rw f at advanced
 
-    pub turn-ends : {s : Step} {p' : Progress} → r ≡ Next.Ended s → s ≡ Step.On p' → WorkedOut a T' B' trail' text' p'
-    turn-ends f g = rw (f, g) at advanced
+      pub turn_on : (t.count ≡ 0 → ⊥) → Come a T' B' trail' text' L' t.count t.at × (turns_at budget t.count t.at < turns_at budget n p)
+      turn_on g = goes-on.1 g
 
-    pub turn-refused : {s : Step} {number : ℕ} {place : DocAt} → r ≡ Next.Ended s → s ≡ Step.Refused number place
-        → Refuses a T' B' L' (older_c o n) number place.0
-    turn-refused f g = rw (f, g) at advanced
+      pub turn-ends : t.count ≡ 0 → WorkedOut a T' B' trail' text' t.at
+      turn-ends g = goes-on.0 g
+
+    pub turn-refused : {x : Refused} → r ≡ Err x → Refuses a T' B' L' (older_c o n) x.number x.place.0
+    turn-refused f = rw f at advanced

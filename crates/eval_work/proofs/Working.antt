@@ -4,6 +4,7 @@ use mathlib.Core.List.{List, []}
 use Prim.Native.Nat.{ℕ, ◌≤◌, ◌<◌}
 use native.Mathlib.Omega.{arith}
 use lib.ListN.{length, take}
+use Rattle.std.specs.Prelude.{Result, Ok, Err}
 use Rattle.answers.specs.Resolve.{refused}
 use Rattle.answers.specs.Theory.AheadTurns.{numbers, scanned, first-scanned}
 use Rattle.rules.specs.Refusals.{Refusal}
@@ -11,13 +12,12 @@ use Rattle.theory_order.specs.Turns.{stacked-length}
 use Rattle.theory_order.specs.Running.{running-start}
 use Rattle.theory_order.specs.Clauses.{questions_of, rules_of}
 use Rattle.theory_order.specs.WorkLaws.{work-begins, work-barred}
-use Rattle.text_chars.specs.declared.DocAt.{DocAt}
+use Rattle.text_chars.specs.declared.Refusal.{Refusal as Refused}
 use Rattle.eval_groups.specs.Clauses.{Below}
 use Rattle.eval_state.specs.Later.{later_same}
 use Rattle.eval_results.specs.Sizes.Outcomes.{OutcomeWithin}
 use Rattle.eval_results.specs.declared.sizes.Outcome.{Outcome}
 use Rattle.eval_trail.specs.declared.Progress.{Progress}
-use Rattle.eval_trail.specs.declared.Step.{Step}
 use Rattle.eval_trail.specs.Turns.Contracts.{list_room, TurnAsked, TurnIs, ItemIs}
 use Rattle.eval_trail.specs.declared.turns.Next.{Next}
 use Rattle.eval_outcomes.specs.Newest.Contracts.{NewestAsked, NewestIs}
@@ -95,7 +95,7 @@ module _ {E : List ℕ} {base b : ℕ} {p₀ : Progress} {budget : ℕ} {T₀ B�
   pub older-asked : OlderAsked o n
   older-asked = record { is = turn-some A (I.is A) I.long }
 
-  module _ {T' B' L' trail' text' : List ℕ} {r : Next} (G : TurnIs room o n p budget T T' B B' L L' trail trail' text text' r) where
+  module _ {T' B' L' trail' text' : List ℕ} {r : Result Next Refused} (G : TurnIs room o n p budget T T' B B' L L' trail trail' text text' r) where
     lent-then : {w' B'' room' : List ℕ} → length B'' ≡ length B₀ → Lent B E w' room' base → Lent B'' E w' room' base
     lent-then e l = record {
       whole = l.whole;
@@ -107,29 +107,26 @@ module _ {E : List ℕ} {base b : ℕ} {p₀ : Progress} {budget : ℕ} {T₀ B�
 
     -- ---- the ends
 
-    pub work-ends : {s : Step} {p' : Progress} → r ≡ Next.Ended s → s ≡ Step.On p'
-        → WorkIs E base b p₀ budget T₀ T' B₀ B' w₀ w trail₀ trail' text₀ text' (Step.On p')
+    pub work-ends : {t : Next} → r ≡ Ok t → t.count ≡ 0 → WorkIs E base b p₀ budget T₀ T' B₀ B' w₀ w trail₀ trail' text₀ text' (Ok t.at)
     work-ends f g = record { below = I.below; is = λ a. turn-ends a (I.is a) I.long G f g }
 
-    module _ {s : Step} {number : ℕ} {place : DocAt} (f : r ≡ Next.Ended s) (g : s ≡ Step.Refused number place) (l : length L' ≡ length L) {m : ℕ}
-        (M : OlderIs o n m) where
-      refuses : {room₁ : List ℕ} (a : WorkAsked T₀ B₀ E w₀ room₁ trail₀ text₀ base b p₀ budget) → Refuses a T' B' L' m number place.0
-      refuses a = rw M.is (turn-refused a (I.is a) I.long G f g)
+    module _ {x : Refused} (f : r ≡ Err x) (l : length L' ≡ length L) {m : ℕ} (M : OlderIs o n m) where
+      refuses : {room₁ : List ℕ} (a : WorkAsked T₀ B₀ E w₀ room₁ trail₀ text₀ base b p₀ budget) → Refuses a T' B' L' m x.number x.place.0
+      refuses a = rw M.is (turn-refused a (I.is a) I.long G f)
 
       pub revise-asked : RefusalAsked T' B' E w room L' base m
       revise-asked = refusal-asked A (refuses A) (lent-then (refuses A).bytes I.lent) (omega (arith, I.long))
 
-      pub work-refuses : {w' B'' : List ℕ} {r' : Step} → RefusalIs T' E L' base m number place.0 w w' B' r'
-          → WorkIs E base b p₀ budget T₀ T' B₀ B'' w₀ w' trail₀ trail' text₀ text' r'
+      pub work-refuses : {w' B'' : List ℕ} {r' : Refused} → RefusalIs T' E L' base m x.number x.place.0 w w' B' r'
+          → WorkIs E base b p₀ budget T₀ T' B₀ B'' w₀ w' trail₀ trail' text₀ text' (Err r')
       work-refuses {w'} {B''} {r'} R = record {
         below = λ i y h. R.left.below i y h ∙ I.below i y h;
         is = λ a. came a r' (R.is a.t a.key a.items (refuses a).S (refusal-posed a (refuses a)) (refuses a).refusal (refuses a).its-number (refuses a).its-place);
       }
         where
-          came : {room₁ : List ℕ} (a : WorkAsked T₀ B₀ E w₀ room₁ trail₀ text₀ base b p₀ budget) (r' : Step)
-              → RefusesAs (scanned (rules_of a.t) (take m L') (refuses a).S (refuses a).refusal) r' → Works a T' B'' trail' text' r'
-          came a (Step.On p') z = absurd z
-          came a (Step.Refused number' place') z =
+          came : {room₁ : List ℕ} (a : WorkAsked T₀ B₀ E w₀ room₁ trail₀ text₀ base b p₀ budget) (r' : Refused)
+              → RefusesAs (scanned (rules_of a.t) (take m L') (refuses a).S (refuses a).refusal) r' → Works a T' B'' trail' text' (Err r')
+          came a r' z =
               let k = refuses a in
               let few = stacked-length (questions_of a.t) (numbers k.older) k.stacked in
               let old = listed-oldest (rules_of a.t) a.t.setting T₀ L' k.older (omega (arith, numbers-length k.older, k.state.document.read.at_most, I.long)) k.listed in
@@ -145,15 +142,21 @@ module _ {E : List ℕ} {base b : ℕ} {p₀ : Progress} {budget : ℕ} {T₀ B�
 
     -- ---- the loop goes on
 
-    module _ {m : ℕ} {p' : Progress} (f : r ≡ Next.On m p') where
+    module _ {t : Next} (f : r ≡ Ok t) (g : t.count ≡ 0 → ⊥) where
+      abbrev m : ℕ
+      m = t.count
+
+      abbrev p' : Progress
+      p' = t.at
+
       come : {room₁ : List ℕ} (a : WorkAsked T₀ B₀ E w₀ room₁ trail₀ text₀ base b p₀ budget) → Come a T' B' trail' text' L' m p'
-      come a = (turn_on a (I.is a) I.long G f).0
+      come a = (turn_on a (I.is a) I.long G f g).0
 
       pub loop-some : 0 < m
       loop-some = (come A).some
 
       pub loop-less : turns_at budget m p' < turns_at budget n p
-      loop-less = (turn_on A (I.is A) I.long G f).1
+      loop-less = (turn_on A (I.is A) I.long G f g).1
 
       module _ (l : length L' ≡ length L) {item : ℕ} (D : ItemIs T' L' m item) where
         lent : Lent B' E w room base

@@ -12,8 +12,9 @@ ghost use Rattle.eval_work.specs.Clauses.{OlderAsked, OlderIs};
 use eval_outcomes::newest::newest_outcome;
 use eval_outcomes::refusals::first_refusal;
 use eval_results::sizes::Outcome;
-use eval_trail::turns::{Next, newest_item, turned};
-use eval_trail::{Progress, Step};
+use eval_trail::Progress;
+use eval_trail::turns::{newest_item, turned};
+use text_chars::Refusal;
 
 // How many of n questions may have refused before, where the newest came to o: all, but for the newest where it was evaluated.
 fn older(o: Outcome, n: usize) -> usize
@@ -42,7 +43,7 @@ pub fn work(
     b: usize,
     at: Progress,
     budget: usize,
-) -> Step
+) -> Result<Progress, Refusal>
     requires { WorkAsked table.old bytes.old env.now stack.old room.old trail.old text.old base b at budget
         × (list_room ≤ length list.old) }
     ensures { WorkIs env.now base b at budget
@@ -56,19 +57,17 @@ pub fn work(
     let mut o = Outcome::Needs(b);
     loop {
         match turned(table, bytes, room, o, list, n, p, budget, trail, text) {
-            Next::Ended(step) => match step {
-                Step::On(end) => return Step::On(end),
-                Step::Refused { number, place } => {
-                    let m = older(o, n);
-                    return first_refusal(
-                        table, bytes, env, stack, base, room, list, m, number, place,
-                    );
-                }
-            },
-            Next::On { count, at: next } => {
-                n = count;
-                p = next;
+            Err(refusal) => {
+                let m = older(o, n);
+                return Err(first_refusal(table, bytes, env, stack, base, room, list, m, refusal));
             }
+            Ok(next) => {
+                n = next.count;
+                p = next.at;
+            }
+        }
+        if n == 0 {
+            return Ok(p);
         }
         let item = newest_item(table, list, n);
         o = newest_outcome(table, bytes, env, stack, base, room, list, n, item);

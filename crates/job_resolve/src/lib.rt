@@ -7,7 +7,7 @@ ghost use Rattle.job_resolve_laws.specs.Clauses.{ResolutionAsked, ResolutionIs};
 
 use codes::limits;
 use eval_settle::settle_root;
-use eval_trail::{Progress, Step};
+use eval_trail::Progress;
 use job_inputs::buffers::{budget_fits, finish, room_of};
 use job_inputs::read_task;
 use job_results::Resolution;
@@ -50,8 +50,11 @@ fn resolution(
         start,
         budget,
     ) {
-        Step::Refused { number, place } => Resolution::Refused { number, place },
-        Step::On(at) => hand_root(numbers, bytes, &mut stack, &mut room, at, table, text),
+        Err(x) => Resolution::Refused {
+            number: x.number,
+            place: x.place,
+        },
+        Ok(at) => hand_root(numbers, bytes, &mut stack, &mut room, at, table, text),
     }
 }
 

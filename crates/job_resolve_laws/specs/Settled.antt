@@ -1,5 +1,5 @@
 -- The resolution of a document that was read: one law for each return, and what its callees ask.
-use Rattle.std.specs.Prelude.{◌≡◌, List, ℕ, length, replicate}
+use Rattle.std.specs.Prelude.{◌≡◌, List, ℕ, length, replicate, Result as Returned, Ok, Err}
 use Rattle.std.proofs.Math.Path.{refl, subst}
 use Rattle.std.proofs.Common.{sym, arith}
 use Rattle.std.proofs.lemmas.List.{length-replicate}
@@ -8,11 +8,10 @@ use Rattle.rules.specs.Refusals.{number_of, place_of}
 use Rattle.rules.specs.Jobs.{Result, refused_with}
 use Rattle.theory_order.specs.Clauses.{settle_root_c}
 use Rattle.theory_order.proofs.Whole.{root-refused}
-use Rattle.text_chars.specs.declared.DocAt.{DocAt}
+use Rattle.text_chars.specs.declared.Refusal.{Refusal as Refused}
 use Rattle.eval_writer.specs.Clauses.{Room}
 use Rattle.eval_stack.specs.Model.{work_room}
 use Rattle.eval_trail.specs.declared.Progress.{Progress}
-use Rattle.eval_trail.specs.declared.Step.{Step}
 use Rattle.eval_question_laws.specs.Work.{RefusedAs}
 use Rattle.eval_settle_laws.specs.Clauses as settling
 use Rattle.job_results.specs.Answers.{resolution_told}
@@ -50,20 +49,20 @@ module _ {T B E w : List ℕ} {budget : ℕ} {trail text : List ℕ} where
     pub settle-asked : (room : List ℕ) → length w ≡ work_room → Room room → settling.RootAsked T B E w room trail text start budget
     settle-asked room l k = settles A l room k
 
-    module _ {T' B' trail' text' : List ℕ} {q : Step} (W : settling.RootIs E start budget T T' B B' w trail trail' text text' q)
+    module _ {T' B' trail' text' : List ℕ} {q : Returned Progress Refused} (W : settling.RootIs E start budget T T' B B' w trail trail' text text' q)
         (l : length w ≡ work_room) where
       -- the promise holds of any room
-      settled : (a : ResolutionAsked T B E budget trail text) {s : Step} → q ≡ s → settling.RootSettles (settles a l zeros whole) T' B' trail' text' s
+      settled : (a : ResolutionAsked T B E budget trail text) {s : Returned Progress Refused} → q ≡ s → settling.RootSettles (settles a l zeros whole) T' B' trail' text' s
       settled a z = rw z at (W.is (settles a l zeros whole))
 
-      pub resolution-refused : {table : List ℕ} {number : ℕ} {place : DocAt} → q ≡ Step.Refused number place
-          → ResolutionIs T B E budget trail trail' table table text text' (Resolution.Refused number place)
+      pub resolution-refused : {table : List ℕ} {x : Refused} → q ≡ Err x
+          → ResolutionIs T B E budget trail trail' table table text text' (Resolution.Refused x.number x.place)
       unfolding refused_with
-      resolution-refused {table} {number} {place} z = record {
+      resolution-refused {table} {x} z = record {
         is = λ a.
-            let h : RefusedAs (settle_root_c (task a)) number place.0 = settled a z in
+            let h : RefusedAs (settle_root_c (task a)) x.number x.place.0 = settled a z in
             let y = h.refusal in
-            subst (λ (R : Result). HandedBack R trail' table text' (Resolution.Refused number place))
+            subst (λ (R : Result). HandedBack R trail' table text' (Resolution.Refused x.number x.place))
             (sym (root-refused (task a) a.ready.state.document.read (task-nested a) (length table) y h.is))
             (record {
               told = told (number_of y) (place_of y) h.its-number h.its-place;
@@ -75,11 +74,11 @@ module _ {T B E w : List ℕ} {budget : ℕ} {trail text : List ℕ} where
             });
       }
         where
-          told : (m p : ℕ) → number ≡ m → place.0 ≡ p
-              → resolution_told (Resolution.Refused number place) ≡ record { number = m; place = p; count = 0; trail = 0; table = 0; text = 0 }
+          told : (m p : ℕ) → x.number ≡ m → x.place.0 ≡ p
+              → resolution_told (Resolution.Refused x.number x.place) ≡ record { number = m; place = p; count = 0; trail = 0; table = 0; text = 0 }
           told m p i j = rw (i, j)
 
-      module _ {p : Progress} (z : q ≡ Step.On p) where
+      module _ {p : Progress} (z : q ≡ Ok p) where
         at-root : (a : ResolutionAsked T B E budget trail text) → root.Settled (task a) T' B' trail' text' p
         at-root a =
             let h : settling.RootSettled (settles a l zeros whole) T' B' trail' text' p = settled a z in

@@ -2,7 +2,6 @@
 use mathlib.Core.Path.{◌≡◌, refl, sym, ap, ◌∙◌}
 use Prim.Native.Nat.{ℕ, suc, ◌+◌, ◌-◌, ◌≤◌, ◌<◌}
 use mathlib.Core.List.{List, [], ◌∷◌}
-use mathlib.Core.Option.{none}
 use native.Mathlib.Omega.{arith}
 use lib.ListN.{length, get_or, take, drop, length-drop}
 use lib.Seq.{drop-cons, get_or-take, length-take-le}
@@ -19,12 +18,12 @@ use Rattle.rules.specs.Documents.{rule_of}
 use Rattle.rules.specs.Jobs.{order_of}
 use Rattle.theory_order.specs.Clauses.{Task, rules_of}
 use Rattle.text_chars.specs.declared.DocAt.{DocAt}
+use Rattle.text_chars.specs.declared.Refusal.{Refusal as Refused}
+use Rattle.text_chars.specs.Cursor.{refusal}
 use Rattle.eval_writer.specs.Clauses.{Room}
-use Rattle.eval_results.specs.declared.extents.Extent.{Extent}
 use Rattle.eval_value_laws.specs.Clauses.{Left}
 use Rattle.eval_value_laws.specs.Frames.{left-all, left-then}
 use Rattle.eval_results.specs.declared.sizes.Outcome.{Outcome}
-use Rattle.eval_trail.specs.declared.Step.{Step}
 use Rattle.eval_trail.specs.Turns.Contracts.{ItemIs}
 use Rattle.eval_question_laws.specs.Clauses.{Asked, Questioned}
 use Rattle.eval_unresolved.specs.Pieces.Several.{again}
@@ -70,8 +69,8 @@ module _ {T B E w room L : List ℕ} {base n : ℕ} (A : RefusalAsked T B E w ro
   loop-first = record { left = left-all; bytes = refl; whole = A.lent.whole; is = λ t key items S P. (P, λ y. refl) }
 
   module _ {i : ℕ} {w₁ B₁ room₁ : List ℕ} (I : LoopInv T E L base n w B i w₁ B₁ room₁) where
-    pub first_ends : {number : ℕ} {place : DocAt} → n ≤ i → RefusalIs T E L base n number place.0 w w₁ B (Step.Refused number place)
-    first_ends {number} {place} l = record {
+    pub first_ends : {given : Refused} → n ≤ i → RefusalIs T E L base n given.number given.place.0 w w₁ B given
+    first_ends {given} l = record {
       left = I.left;
       is = λ t key items S P y a b.
           let e = (I.is t key items S P).1 y ∙ from_end t S L n A.long y i l in
@@ -129,21 +128,19 @@ module _ {T B E w room L : List ℕ} {base n : ℕ} (A : RefusalAsked T B E w ro
           is = λ t key items S P. ((came t key items S P).0, λ y. next t key items S P y (f t key items S P (came t key items S P).1));
         }
 
-        pub loop-done : {e : Extent} → o ≡ Outcome.Done e → LoopInv T E L base n w B (i + 1) w₂ B₂ room₂
-        loop-done {e} z = goes (λ t key items S P c x q.
-            let v : OutcomeCase key items T room₂ (rule t key items S P) (Outcome.Done e) = rw z at c in clash (cc (v.is, q)))
+        pub loop-on : ((first : ℕ) (there : DocAt) → o ≡ Outcome.Refused first there → ⊥) → LoopInv T E L base n w B (i + 1) w₂ B₂ room₂
+        loop-on z = goes (λ t key items S P c x q. went key items (rule t key items S P) o z c x q)
+          where
+            went : (key : ℕ → Text) (items : ℕ) (g : Given Answer) (o : Outcome) → ((first : ℕ) (there : DocAt) → o ≡ Outcome.Refused first there → ⊥)
+                → OutcomeCase key items T room₂ g o → (x : Refusal) → g ≡ refused x → ⊥
+            went key items g (Outcome.Done e) z c x q = clash (cc (c.is, q))
+            went key items g Outcome.Undefined z c x q = clash (cc (c, q))
+            went key items g (Outcome.Needs d) z c x q = clash (cc (c, q))
+            went key items g (Outcome.Refused first there) z c x q = z first there refl
 
-        pub loop-undefined : o ≡ Outcome.Undefined → LoopInv T E L base n w B (i + 1) w₂ B₂ room₂
-        loop-undefined z = goes (λ t key items S P c x q.
-            let v : rule t key items S P ≡ value none = rw z at c in clash (cc (v, q)))
-
-        pub loop-needs : {d : ℕ} → o ≡ Outcome.Needs d → LoopInv T E L base n w B (i + 1) w₂ B₂ room₂
-        loop-needs {d} z = goes (λ t key items S P c x q.
-            let v : rule t key items S P ≡ missing d = rw z at c in clash (cc (v, q)))
-
-        pub first_found : {number first : ℕ} {place there : DocAt} → o ≡ Outcome.Refused first there
-            → RefusalIs T E L base n number place.0 w w₂ B (Step.Refused first there)
-        first_found {number} {first} {place} {there} z = record {
+        pub first_found : {number place first : ℕ} {there : DocAt} → o ≡ Outcome.Refused first there
+            → RefusalIs T E L base n number place w w₂ B (refusal first there)
+        first_found {number} {place} {first} {there} z = record {
           left = left-then I.left O.left;
           is = λ t key items S P y a b.
               let c : OutcomeCase key items T room₂ (rule t key items S P) (Outcome.Refused first there) = rw z at (came t key items S P).1 in
@@ -153,7 +150,4 @@ module _ {T B E w room L : List ℕ} {base n : ℕ} (A : RefusalAsked T B E w ro
               (c.its-number ∙ ap number_of (sym e), c.its-place ∙ ap place_of (sym e));
         }
 
-pub loop-less : {i n : ℕ} → i < n → n - (i + 1) < n - i
-loop-less l = omega arith
-
-pub ruleset scans = (loop-first, first_ends, loop-asked, loop-done, loop-undefined, loop-needs, first_found, loop-less)
+pub ruleset scans = (loop-first, first_ends, loop-asked, loop-on, first_found)

@@ -1,3 +1,4 @@
+use Rattle.std.proofs.lemmas.Result.{err_from_is_err_and}
 use Rattle.eval_settle_laws.specs.Settling.{one_laws}
 use borrow.Author.Rules.{rules}
 use Rattle.eval_settle_laws.specs.Settling.{all_laws, all-refused, all-less, all-on}
@@ -13,29 +14,31 @@ settle_all-need_at-met-requires t c = search all_laws
 pub settle_all-settle_one-requires : goal.settle_all-settle_one-requires
 settle_all-settle_one-requires t c = (search rules, (search all_laws, let h = c.loop-p.invariant.1 in search rules))
 
-pub settle_all-shape_of-table-in-Refused : goal.settle_all-shape_of-table-in-Refused
-settle_all-shape_of-table-in-Refused t c = let h = c.loop-p.invariant.0.same-table in search rules
+pub settle_all-shape_of-table-in_err-state : goal.settle_all-shape_of-table-in_err-state
+settle_all-shape_of-table-in_err-state t c = let h = c.loop-p.invariant.0.same-table in search rules
 
-pub settle_all-shape_of-bytes-in-Refused : goal.settle_all-shape_of-bytes-in-Refused
-settle_all-shape_of-bytes-in-Refused t c = let h = c.loop-p.invariant.0.same_bytes in search rules
+pub settle_all-shape_of-bytes-in_err-state : goal.settle_all-shape_of-bytes-in_err-state
+settle_all-shape_of-bytes-in_err-state t c = let h = c.loop-p.invariant.0.same_bytes in search rules
 
-pub settle_all-shape_of-stack-in-Refused : goal.settle_all-shape_of-stack-in-Refused
-settle_all-shape_of-stack-in-Refused t c = let h = c.loop-p.invariant.0.left.len in search rules
+pub settle_all-shape_of-stack-in_err-state : goal.settle_all-shape_of-stack-in_err-state
+settle_all-shape_of-stack-in_err-state t c = let h = c.loop-p.invariant.0.left.len in search rules
 
-pub settle_all-shape_of-room-in-Refused : goal.settle_all-shape_of-room-in-Refused
-settle_all-shape_of-room-in-Refused t c = let h = c.loop-p.invariant.0.same-room in search rules
+pub settle_all-shape_of-room-in_err-state : goal.settle_all-shape_of-room-in_err-state
+settle_all-shape_of-room-in_err-state t c = let h = c.loop-p.invariant.0.same-room in search rules
 
-pub settle_all-shape_of-trail-in-Refused : goal.settle_all-shape_of-trail-in-Refused
-settle_all-shape_of-trail-in-Refused t c = let h = c.loop-p.invariant.0.same-trail in search rules
+pub settle_all-shape_of-trail-in_err-state : goal.settle_all-shape_of-trail-in_err-state
+settle_all-shape_of-trail-in_err-state t c = let h = c.loop-p.invariant.0.same-trail in search rules
 
-pub settle_all-shape_of-text-in-Refused : goal.settle_all-shape_of-text-in-Refused
-settle_all-shape_of-text-in-Refused t c = let h = c.loop-p.invariant.0.same_text in search rules
+pub settle_all-shape_of-text-in_err-state : goal.settle_all-shape_of-text-in_err-state
+settle_all-shape_of-text-in_err-state t c = let h = c.loop-p.invariant.0.same_text in search rules
 
-pub settle_all-shape_of-list-in-Refused : goal.settle_all-shape_of-list-in-Refused
-settle_all-shape_of-list-in-Refused t c = let h = c.loop-p.invariant.1 in search rules
+pub settle_all-shape_of-list-in_err-state : goal.settle_all-shape_of-list-in_err-state
+settle_all-shape_of-list-in_err-state t c = let h = c.loop-p.invariant.1 in search rules
 
-pub settle_all-returns-in-Refused : goal.settle_all-returns-in-Refused
-settle_all-returns-in-Refused t c = all-refused c.loop-p.invariant.0 c.loop-p-test.true c.need_at-met.ensures c.settle_one.ensures (search rules)
+pub settle_all-returns-in_err-state : goal.settle_all-returns-in_err-state
+settle_all-returns-in_err-state t c =
+    let p = err_from_is_err_and c.from_residual.result c.from_residual.ensures.1 in
+    rw (p.1, p.2) (all-refused c.loop-p.invariant.0 c.loop-p-test.true c.need_at-met.ensures c.settle_one.ensures c.in_err-state.was)
 
 pub settle_all-loop-p-smaller : goal.settle_all-loop-p-smaller
 settle_all-loop-p-smaller t c = all-less c.loop-p.invariant.0 c.loop-p-test.true c.need_at-met.ensures c.settle_one.ensures (search rules) c.requires.0

@@ -4,30 +4,29 @@ use mathlib.Core.List.{List}
 use Prim.Native.Nat.{ℕ, ◌+◌, ◌-◌, ◌<◌}
 use native.Mathlib.Omega.{arith}
 use lib.ListN.{length, get_or, set, length-set}
+use Rattle.std.specs.Prelude.{Result, Ok, Err}
 use Rattle.doc_items.specs.Room.{index_at}
 use Rattle.doc_items.specs.Writing.{ReadIs}
 use Rattle.text_chars.specs.declared.DocAt.{DocAt}
+use Rattle.text_chars.specs.declared.Refusal.{Refusal}
+use Rattle.text_chars.specs.Cursor.{refusal}
 use Rattle.eval_results.specs.declared.extents.Extent.{Extent}
 use Rattle.eval_results.specs.declared.sizes.Outcome.{Outcome}
 use Rattle.eval_trail.specs.Clauses.{BeginAsked, BeginIs, LayAsked, LayIs, NoneAsked, NoneIs}
 use Rattle.eval_trail.specs.declared.Progress.{Progress}
-use Rattle.eval_trail.specs.declared.Step.{Step}
-use Rattle.eval_trail.specs.Turns.Contracts.{pieces_at, LaidIs, BegunAsked, BegunIs, TurnNeeds, TurnAsked, TurnIs, ItemIs}
+use Rattle.eval_trail.specs.Turns.Contracts.{pieces_at, next, LaidIs, BegunAsked, BegunIs, TurnNeeds, TurnAsked, TurnIs, ItemIs}
 use Rattle.eval_trail.specs.declared.turns.Next.{Next}
 
 -- ---- an answer is laid
 
-module _ {n : ℕ} {s : Step} where
-  pub laid-last : {p : Progress} → s ≡ Step.On p → n ≡ 1 → LaidIs n s (Next.Ended (Step.On p))
-  laid-last e l = record { is = rw e (λ f. refl, λ f. absurd (f l)) }
+module _ {n : ℕ} {s : Result Progress Refusal} where
+  pub laid_on : {p : Progress} → s ≡ Ok p → LaidIs n s (Ok (next (n - 1) p))
+  laid_on e = record { is = rw e refl }
 
-  pub laid_on : {p : Progress} → s ≡ Step.On p → (n ≡ 1 → ⊥) → LaidIs n s (Next.On (n - 1) p)
-  laid_on e l = record { is = rw e (λ f. absurd (l f), λ f. refl) }
-
-  pub laid-off : {number : ℕ} {place : DocAt} → s ≡ Step.Refused number place → LaidIs n s (Next.Ended (Step.Refused number place))
+  pub laid-off : {x : Refusal} → s ≡ Err x → LaidIs n s (Err x)
   laid-off e = record { is = rw e refl }
 
-pub ruleset laids = (laid-last, laid_on, laid-off)
+pub ruleset laids = (laid_on, laid-off)
 
 -- ---- a question begins
 
@@ -35,18 +34,18 @@ module _ {T L : List ℕ} {n d : ℕ} {p : Progress} {budget : ℕ} (A : BegunAs
   pub begun-asked : BeginAsked T d
   begun-asked = A.begins
 
-  module _ {T' : List ℕ} {s : Step} (G : BeginIs d p budget T T' s) where
-    pub begun-off : {number : ℕ} {place : DocAt} → s ≡ Step.Refused number place → BegunIs n d p budget T T' L L (Next.Ended (Step.Refused number place))
+  module _ {T' : List ℕ} {s : Result Progress Refusal} (G : BeginIs d p budget T T' s) where
+    pub begun-off : {x : Refusal} → s ≡ Err x → BegunIs n d p budget T T' L L (Err x)
     begun-off e = record { step = s; begins = G; is = rw e refl; list = rw e refl }
 
-    module _ {p' : Progress} (e : s ≡ Step.On p') where
+    module _ {p' : Progress} (e : s ≡ Ok p') where
       pub begun-room : n < length L
       begun-room = omega (arith, A.room T' p' (rw e at G))
 
       pub begun-piece-room : pieces_at + n < length (set L n d)
       begun-piece-room = omega (arith, A.room T' p' (rw e at G), length-set L n d)
 
-      pub begun-on : BegunIs n d p budget T T' L (set (set L n d) (pieces_at + n) 0) (Next.On (n + 1) p')
+      pub begun-on : BegunIs n d p budget T T' L (set (set L n d) (pieces_at + n) 0) (Ok (next (n + 1) p'))
       begun-on = record { step = s; begins = G; is = rw e refl; list = rw e refl }
 
 pub ruleset beguns = (begun-asked, begun-off, begun-room, begun-piece-room, begun-on)
@@ -56,14 +55,14 @@ pub ruleset beguns = (begun-asked, begun-off, begun-room, begun-piece-room, begu
 module _ {T B room : List ℕ} {o : Outcome} {L : List ℕ} {n : ℕ} {p : Progress} {budget : ℕ} {trail text : List ℕ}
     (A : TurnAsked T B room o L n p budget trail text) where
   pub turn-refused : {number : ℕ} {place : DocAt} → o ≡ Outcome.Refused number place
-      → TurnIs room o n p budget T T B B L L trail trail text text (Next.Ended (Step.Refused number place))
+      → TurnIs room o n p budget T T B B L L trail trail text text (Err (refusal number place))
   turn-refused e = record { is = rw e (record { is = refl; table = refl; bytes = refl; list = refl }) }
 
   module _ {d : ℕ} (e : o ≡ Outcome.Needs d) where
     pub needs-asked : BegunAsked T L n d p budget
     needs-asked = rw e at A.is
 
-    pub turn-needs : {T' L' : List ℕ} {r : Next} → BegunIs n d p budget T T' L L' r → TurnIs room o n p budget T T' B B L L' trail trail text text r
+    pub turn-needs : {T' L' : List ℕ} {r : Result Next Refusal} → BegunIs n d p budget T T' L L' r → TurnIs room o n p budget T T' B B L L' trail trail text text r
     turn-needs G = record { is = rw e (record { begun = G; bytes = refl; trails = refl; texts = refl }) }
 
   module _ (e : o ≡ Outcome.Undefined) where
@@ -77,7 +76,7 @@ module _ {T B room : List ℕ} {o : Outcome} {L : List ℕ} {n : ℕ} {p : Progr
       pub undefined-asked : NoneAsked T q p trail text
       undefined-asked = subst (λ (i : ℕ). NoneAsked T i p trail text) (sym R.is) undefined-needs.1
 
-      pub turn-undefined : {T' trail' : List ℕ} {s : Step} {r : Next} → NoneIs q p T T' trail trail' text s → LaidIs n s r
+      pub turn-undefined : {T' trail' : List ℕ} {s : Result Progress Refusal} {r : Result Next Refusal} → NoneIs q p T T' trail trail' text s → LaidIs n s r
           → TurnIs room o n p budget T T' B B L L trail trail' text text r
       turn-undefined {T'} {trail'} {s} {r} G k = record {
         is =
@@ -103,7 +102,7 @@ module _ {T B room : List ℕ} {o : Outcome} {L : List ℕ} {n : ℕ} {p : Progr
       pub done-asked : LayAsked T B room x.out q p trail text
       done-asked = subst (λ (i : ℕ). LayAsked T B room x.out i p trail text) (sym R.is) done-needs.1
 
-      pub turn-done : {T' B' trail' text' : List ℕ} {s : Step} {r : Next} → LayIs room x.out q p T T' B B' trail trail' text text' s → LaidIs n s r
+      pub turn-done : {T' B' trail' text' : List ℕ} {s : Result Progress Refusal} {r : Result Next Refusal} → LayIs room x.out q p T T' B B' trail trail' text text' s → LaidIs n s r
           → TurnIs room o n p budget T T' B B' L L trail trail' text text' r
       turn-done {T'} {B'} {trail'} {text'} {s} {r} G k = record {
         is =

@@ -1,13 +1,14 @@
 -- What a turn asks and promises, by what the newest question of the list came to: eval_trail's steps were taken.
-use Rattle.std.specs.Prelude.{◌≡◌, List, ℕ, ◌+◌, ◌-◌, ◌≤◌, ◌<◌, length, get_or, set}
+use Rattle.std.specs.Prelude.{◌≡◌, List, ℕ, ◌+◌, ◌-◌, ◌≤◌, ◌<◌, length, get_or, set, Result, Ok, Err}
 use Rattle.rules.specs.Sizes.{max_unresolved}
 use Rattle.text_chars.specs.declared.DocAt.{DocAt}
+use Rattle.text_chars.specs.declared.Refusal.{Refusal}
+use Rattle.text_chars.specs.Cursor.{refusal}
 use Rattle.doc_items.specs.Room.{index_at}
 use Rattle.eval_results.specs.declared.extents.Extent.{Extent}
 use Rattle.eval_results.specs.declared.sizes.Outcome.{Outcome}
 use Rattle.eval_trail.specs.Clauses.{BeginAsked, BeginIs, LayAsked, LayIs, NoneAsked, NoneIs}
 use Rattle.eval_trail.specs.declared.Progress.{Progress}
-use Rattle.eval_trail.specs.declared.Step.{Step}
 use Rattle.eval_trail.specs.declared.turns.Next.{Next}
 
 -- the list has room for all questions, and behind them for the piece of each
@@ -25,13 +26,17 @@ newest L n = get_or L (n - 1) 0
 abbrev pub newest_piece : List ℕ → ℕ → ℕ
 newest_piece L n = get_or L (pieces_at + (n - 1)) 0
 
+-- so many questions are in the list, and so far it has come
+abbrev pub next : ℕ → Progress → Next
+next count at = record { count = count; at = at }
+
 -- ---- an answer is laid
 
-abbrev pub Laid : ℕ → Next → Step → Type 0
-Laid n r (Step.On p) = (n ≡ 1 → r ≡ Next.Ended (Step.On p)) × ((n ≡ 1 → ⊥) → r ≡ Next.On (n - 1) p)
-Laid n r (Step.Refused number place) = r ≡ Next.Ended (Step.Refused number place)
+abbrev pub Laid : ℕ → Result Next Refusal → Result Progress Refusal → Type 0
+Laid n r (Ok p) = r ≡ Ok (next (n - 1) p)
+Laid n r (Err x) = r ≡ Err x
 
-pub record LaidIs (n : ℕ) (s : Step) (r : Next) : Type 0 where
+pub record LaidIs (n : ℕ) (s : Result Progress Refusal) (r : Result Next Refusal) : Type 0 where
   pub is : Laid n r s
 
 -- ---- a question begins
@@ -40,19 +45,19 @@ pub record LaidIs (n : ℕ) (s : Step) (r : Next) : Type 0 where
 pub record BegunAsked (T L : List ℕ) (n d : ℕ) (p : Progress) (budget : ℕ) : Type 0 where
   pub begins : BeginAsked T d
   pub few : n ≤ max_unresolved
-  pub room : (T' : List ℕ) (p' : Progress) → BeginIs d p budget T T' (Step.On p') → pieces_at + n < length L
+  pub room : (T' : List ℕ) (p' : Progress) → BeginIs d p budget T T' (Ok p') → pieces_at + n < length L
 
-abbrev pub begun_next : ℕ → Step → Next
-begun_next n (Step.On p) = Next.On (n + 1) p
-begun_next n (Step.Refused number place) = Next.Ended (Step.Refused number place)
+abbrev pub begun_next : ℕ → Result Progress Refusal → Result Next Refusal
+begun_next n (Ok p) = Ok (next (n + 1) p)
+begun_next n (Err x) = Err x
 
 -- it has just begun: there is no piece yet
-abbrev pub begun_list : ℕ → ℕ → List ℕ → Step → List ℕ
-begun_list n d L (Step.On p) = set (set L n d) (pieces_at + n) 0
-begun_list n d L (Step.Refused number place) = L
+abbrev pub begun_list : ℕ → ℕ → List ℕ → Result Progress Refusal → List ℕ
+begun_list n d L (Ok p) = set (set L n d) (pieces_at + n) 0
+begun_list n d L (Err x) = L
 
-pub record BegunIs (n d : ℕ) (p : Progress) (budget : ℕ) (T T' L L' : List ℕ) (r : Next) : Type 0 where
-  pub step : Step
+pub record BegunIs (n d : ℕ) (p : Progress) (budget : ℕ) (T T' L L' : List ℕ) (r : Result Next Refusal) : Type 0 where
+  pub step : Result Progress Refusal
   pub begins : BeginIs d p budget T T' step
   pub is : r ≡ begun_next n step
   pub list : L' ≡ begun_list n d L step
@@ -68,15 +73,15 @@ TurnNeeds T B room L n p budget trail text (Outcome.Refused number place) = Unit
 pub record TurnAsked (T B room : List ℕ) (o : Outcome) (L : List ℕ) (n : ℕ) (p : Progress) (budget : ℕ) (trail text : List ℕ) : Type 0 where
   pub is : TurnNeeds T B room L n p budget trail text o
 
-module _ (room : List ℕ) (n : ℕ) (p : Progress) (budget : ℕ) (T T' B B' L L' trail trail' text text' : List ℕ) (r : Next) where
+module _ (room : List ℕ) (n : ℕ) (p : Progress) (budget : ℕ) (T T' B B' L L' trail trail' text text' : List ℕ) (r : Result Next Refusal) where
   pub record DoneTurn (e : Extent) : Type 0 where
-    pub step : Step
+    pub step : Result Progress Refusal
     pub lays : LayIs room e.out (newest L n) p T T' B B' trail trail' text text' step
     pub laid : LaidIs n step r
     pub list : L' ≡ L
 
   pub record UndefinedTurn : Type 0 where
-    pub step : Step
+    pub step : Result Progress Refusal
     pub lays : NoneIs (newest L n) p T T' trail trail' text step
     pub laid : LaidIs n step r
     pub list : L' ≡ L
@@ -90,7 +95,7 @@ module _ (room : List ℕ) (n : ℕ) (p : Progress) (budget : ℕ) (T T' B B' L 
     pub texts : text' ≡ text
 
   pub record RefusedTurn (number : ℕ) (place : DocAt) : Type 0 where
-    pub is : r ≡ Next.Ended (Step.Refused number place)
+    pub is : r ≡ Err (refusal number place)
     pub table : T' ≡ T
     pub bytes : B' ≡ B
     pub list : L' ≡ L
@@ -101,7 +106,7 @@ module _ (room : List ℕ) (n : ℕ) (p : Progress) (budget : ℕ) (T T' B B' L 
   TurnCase (Outcome.Needs d) = NeedsTurn d
   TurnCase (Outcome.Refused number place) = RefusedTurn number place
 
-pub record TurnIs (room : List ℕ) (o : Outcome) (n : ℕ) (p : Progress) (budget : ℕ) (T T' B B' L L' trail trail' text text' : List ℕ) (r : Next) : Type 0 where
+pub record TurnIs (room : List ℕ) (o : Outcome) (n : ℕ) (p : Progress) (budget : ℕ) (T T' B B' L L' trail trail' text text' : List ℕ) (r : Result Next Refusal) : Type 0 where
   pub is : TurnCase room n p budget T T' B B' L L' trail trail' text text' r o
 
 -- ---- the newest question's item

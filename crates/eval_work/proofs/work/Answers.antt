@@ -2,53 +2,53 @@ use Rattle.eval_work.proofs.Working.{works, revise-asked, work-refuses, newest-a
 use borrow.Author.Rules.{rules}
 use Rattle.eval_work.proofs.work.Goals as goal
 
-pub loop-step-init : goal.loop-step-init
-loop-step-init c = search works
+pub loop-refusal-init : goal.loop-refusal-init
+loop-refusal-init c = search works
 
 pub turned-requires : goal.turned-requires
 turned-requires c = search works
 
-pub returns-in-On-step : goal.returns-in-On-step
-returns-in-On-step c = search works
+pub returns-then-n-eq0 : goal.returns-then-n-eq0
+returns-then-n-eq0 c = search works
 
 pub older-m-requires : goal.older-m-requires
 older-m-requires c = search works
 
 pub first_refusal-requires : goal.first_refusal-requires
-first_refusal-requires c = revise-asked c.loop-step.invariant c.turned.ensures c.in-Ended.is c.in-Refused.is (search rules) c.older-m.ensures
+first_refusal-requires c = revise-asked c.loop-refusal.invariant c.turned.ensures c.in-Err.is (search rules) c.older-m.ensures
 
-pub shape_of-table-in-Refused : goal.shape_of-table-in-Refused
-shape_of-table-in-Refused c = let h = c.loop-step.invariant.same-table in search rules
+pub shape_of-table-in-Err : goal.shape_of-table-in-Err
+shape_of-table-in-Err c = let h = c.loop-refusal.invariant.same-table in search rules
 
-pub shape_of-bytes-in-Refused : goal.shape_of-bytes-in-Refused
-shape_of-bytes-in-Refused c = let h = c.loop-step.invariant.same_bytes in search rules
+pub shape_of-bytes-in-Err : goal.shape_of-bytes-in-Err
+shape_of-bytes-in-Err c = let h = c.loop-refusal.invariant.same_bytes in search rules
 
-pub shape_of-stack-in-Refused : goal.shape_of-stack-in-Refused
-shape_of-stack-in-Refused c = let h = c.loop-step.invariant.same-work in search rules
+pub shape_of-stack-in-Err : goal.shape_of-stack-in-Err
+shape_of-stack-in-Err c = let h = c.loop-refusal.invariant.same-work in search rules
 
-pub shape_of-room-in-Refused : goal.shape_of-room-in-Refused
-shape_of-room-in-Refused c = let h = c.loop-step.invariant.same-room in search rules
+pub shape_of-room-in-Err : goal.shape_of-room-in-Err
+shape_of-room-in-Err c = let h = c.loop-refusal.invariant.same-room in search rules
 
-pub shape_of-trail-in-Refused : goal.shape_of-trail-in-Refused
-shape_of-trail-in-Refused c = let h = c.loop-step.invariant.same-trail in search rules
+pub shape_of-trail-in-Err : goal.shape_of-trail-in-Err
+shape_of-trail-in-Err c = let h = c.loop-refusal.invariant.same-trail in search rules
 
-pub shape_of-text-in-Refused : goal.shape_of-text-in-Refused
-shape_of-text-in-Refused c = let h = c.loop-step.invariant.same_text in search rules
+pub shape_of-text-in-Err : goal.shape_of-text-in-Err
+shape_of-text-in-Err c = let h = c.loop-refusal.invariant.same_text in search rules
 
-pub shape_of-list-in-Refused : goal.shape_of-list-in-Refused
-shape_of-list-in-Refused c = let h = c.loop-step.invariant.same-list in search rules
+pub shape_of-list-in-Err : goal.shape_of-list-in-Err
+shape_of-list-in-Err c = let h = c.loop-refusal.invariant.same-list in search rules
 
-pub returns-in-Refused : goal.returns-in-Refused
-returns-in-Refused c = work-refuses c.loop-step.invariant c.turned.ensures c.in-Ended.is c.in-Refused.is (search rules) c.older-m.ensures c.first_refusal.ensures
+pub returns-in-Err : goal.returns-in-Err
+returns-in-Err c = work-refuses c.loop-refusal.invariant c.turned.ensures c.in-Err.is (search rules) c.older-m.ensures c.first_refusal.ensures
 
 pub newest_item-item-requires : goal.newest_item-item-requires
 newest_item-item-requires c = search works
 
 pub newest_outcome-o-requires : goal.newest_outcome-o-requires
-newest_outcome-o-requires c = newest-asked c.loop-step.invariant c.turned.ensures c.in-On.is (search rules) c.newest_item-item.ensures
+newest_outcome-o-requires c = newest-asked c.loop-refusal.invariant c.turned.ensures c.in-Ok.is (search rules) (search rules) c.newest_item-item.ensures
 
-pub loop-step-smaller : goal.loop-step-smaller
-loop-step-smaller c = loop-less c.loop-step.invariant c.turned.ensures c.in-On.is
+pub loop-refusal-smaller : goal.loop-refusal-smaller
+loop-refusal-smaller c = loop-less c.loop-refusal.invariant c.turned.ensures c.in-Ok.is (search rules)
 
-pub loop-step-preserved : goal.loop-step-preserved
-loop-step-preserved c = loop-goes c.loop-step.invariant c.turned.ensures c.in-On.is (search rules) c.newest_item-item.ensures c.newest_outcome-o.ensures (search rules) (search rules) (search rules) (search rules) (search rules)
+pub loop-refusal-preserved : goal.loop-refusal-preserved
+loop-refusal-preserved c = loop-goes c.loop-refusal.invariant c.turned.ensures c.in-Ok.is (search rules) (search rules) c.newest_item-item.ensures c.newest_outcome-o.ensures (search rules) (search rules) (search rules) (search rules) (search rules)

@@ -8,8 +8,8 @@ settle_root-requires c = (search settle-asked, search rules)
 pub hand_root-requires : goal.hand_root-requires
 hand_root-requires c = hand-asked c.requires c.settle_root.ensures (search rules) (search rules) _ _ (search rules) (search rules) (search rules)
 
-pub returns-in-Refused : goal.returns-in-Refused
-returns-in-Refused c = resolution-refused c.requires c.settle_root.ensures (search rules) (search rules)
+pub returns-in-Err : goal.returns-in-Err
+returns-in-Err c = resolution-refused c.requires c.settle_root.ensures (search rules) (search rules)
 
-pub returns-in-On : goal.returns-in-On
-returns-in-On c = resolution-done c.requires c.settle_root.ensures (search rules) (search rules) c.hand_root.ensures
+pub returns-in-Ok : goal.returns-in-Ok
+returns-in-Ok c = resolution-done c.requires c.settle_root.ensures (search rules) (search rules) c.hand_root.ensures

@@ -10,21 +10,6 @@ unresolved_value-requires c = search scans
 pub returns-in-Refused : goal.returns-in-Refused
 returns-in-Refused c = search scans
 
-pub loop-i-smaller-in-Done : goal.loop-i-smaller-in-Done
-loop-i-smaller-in-Done c = search scans
-
-pub loop-i-preserved-in-Done : goal.loop-i-preserved-in-Done
-loop-i-preserved-in-Done c = search scans
-
-pub loop-i-smaller-in-Undefined : goal.loop-i-smaller-in-Undefined
-loop-i-smaller-in-Undefined c = search scans
-
-pub loop-i-preserved-in-Undefined : goal.loop-i-preserved-in-Undefined
-loop-i-preserved-in-Undefined c = search scans
-
-pub loop-i-smaller : goal.loop-i-smaller
-loop-i-smaller c = search scans
-
 pub loop-i-preserved : goal.loop-i-preserved
 loop-i-preserved c = search scans
 

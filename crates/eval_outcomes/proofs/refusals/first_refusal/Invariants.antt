@@ -1,11 +1,5 @@
 use Rattle.eval_outcomes.proofs.refusals.Scanning.{LoopInv}
-use Prim.Native.Nat.{◌-◌}
 use Rattle.eval_outcomes.proofs.refusals.first_refusal.Given as goal
 
 abbrev pub invariant-loop-i : goal.invariant-loop-i
 invariant-loop-i l = LoopInv l.table l.env l.list l.base l.n l.initial.stack l.initial.bytes l.i l.stack l.bytes l.room
-
-abbrev pub decreases-loop-i : goal.decreases-loop-i
-decreases-loop-i l = l.n - l.i
-
--- named, so that it is judged by itself where a call before it is refused too
