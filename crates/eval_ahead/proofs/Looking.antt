@@ -6,6 +6,8 @@ use mathlib.Core.List.{List}
 use mathlib.Core.Option.{none}
 use native.Mathlib.Omega.{arith}
 use lib.ListN.{length, get_or}
+use Rattle.std.specs.Prelude.{Some, None}
+use Rattle.std.specs.declared.option.Option.{Option as Maybe}
 use Rattle.answers.specs.Ask.{Trail, lookup, value, missing}
 use Rattle.answers.specs.Theory.Sound.{clash}
 use Rattle.rules.specs.Bytes.{Text}
@@ -34,7 +36,6 @@ use Rattle.eval_question_laws.specs.Standing.{pieces-begin, pieces_end, node-giv
 use Rattle.eval_unresolved.specs.Pieces.Contracts.{Behind}
 use Rattle.eval_unresolved.specs.Pieces.Several.{behind-left, inside, behind-next, behind-end}
 use Rattle.eval_ahead.specs.Clauses.{Starts, FirstIs, Found, FinishedAsked, FinishedIs, MissedCase, LackIs, MissedAsked, MissedIs, Passes, here, more, AheadIs}
-use Rattle.eval_ahead.specs.declared.Lack.{Lack}
 use Rattle.eval_ahead.specs.declared.Awaited.{Awaited}
 use Rattle.eval_ahead.proofs.Finished.{finished-asked}
 
@@ -114,20 +115,20 @@ pub ruleset first-laws = (first-inside, first-none, first_one, first_two, first-
 
 module _ {T B E : List ℕ} {base : ℕ} {piece : Piece} {w w' b a : List ℕ} {v : PieceValue} (A : PieceAsked B E w base b piece)
     (k : PieceValueIs T B E base piece w w' v b a) (l : length a ≡ length b) where
-  lack-by : (r : Lack) → ((key : ℕ → Text) (items : ℕ) (g : Given Answer) → ValueCase key items T g b a v → MissedCase g r) → LackIs T B E base piece w w' a r
+  lack-by : (r : Maybe ℕ) → ((key : ℕ → Text) (items : ℕ) (g : Given Answer) → ValueCase key items T g b a v → MissedCase g r) → LackIs T B E base piece w w' a r
   lack-by r f = record { left = k.left; whole = l ∙ A.value.whole; is = λ key items known g c. f key items g (k.is key items known g c) }
 
-  pub lack-needs : {d : ℕ} → v ≡ PieceValue.Needs d → LackIs T B E base piece w w' a (Lack.Needs d)
-  lack-needs {d} z = lack-by (Lack.Needs d) (λ key items g c. rw z at c)
+  pub lack-needs : {d : ℕ} → v ≡ PieceValue.Needs d → LackIs T B E base piece w w' a (Some d)
+  lack-needs {d} z = lack-by (Some d) (λ key items g c. rw z at c)
 
-  pub lack-done : {e : Extent} → v ≡ PieceValue.Done e → LackIs T B E base piece w w' a Lack.Nothing
-  lack-done {e} z = lack-by Lack.Nothing (λ key items g c d m. let y : ValueCase key items T g b a (PieceValue.Done e) = rw z at c in clash (cc y.is))
+  pub lack-done : {e : Extent} → v ≡ PieceValue.Done e → LackIs T B E base piece w w' a None
+  lack-done {e} z = lack-by None (λ key items g c d m. let y : ValueCase key items T g b a (PieceValue.Done e) = rw z at c in clash (cc y.is))
 
-  pub lack-undefined : v ≡ PieceValue.Undefined → LackIs T B E base piece w w' a Lack.Nothing
-  lack-undefined z = lack-by Lack.Nothing (λ key items g c d m. let y : g ≡ value none = rw z at c in clash (cc))
+  pub lack-undefined : v ≡ PieceValue.Undefined → LackIs T B E base piece w w' a None
+  lack-undefined z = lack-by None (λ key items g c d m. let y : g ≡ value none = rw z at c in clash (cc))
 
-  pub lack-required : {p : DocAt} → v ≡ PieceValue.Missing p → LackIs T B E base piece w w' a Lack.Nothing
-  lack-required {p} z = lack-by Lack.Nothing (λ key items g c d m. let y : ValueCase key items T g b a (PieceValue.Missing p) = rw z at c in clash (cc))
+  pub lack-required : {p : DocAt} → v ≡ PieceValue.Missing p → LackIs T B E base piece w w' a None
+  lack-required {p} z = lack-by None (λ key items g c d m. let y : ValueCase key items T g b a (PieceValue.Missing p) = rw z at c in clash (cc))
 
 pub ruleset lack-laws = (lack-needs, lack-done, lack-undefined, lack-required)
 
@@ -169,14 +170,14 @@ module _ {B E w b : List ℕ} {base item i : ℕ} (A : MissedAsked B E w b base 
     before : Left base w w₁
     before = record { below = same-below base w w₁ h.same; len = h.len }
 
-    pub missed-finished : {r : Bool} → FinishedIs w₁ piece r → r ≡ true → MissedIs T B E base item i w w₁ b Lack.Nothing
+    pub missed-finished : {r : Bool} → FinishedIs w₁ piece r → r ≡ true → MissedIs T B E base item i w w₁ b None
     missed-finished f z = record {
       left = before;
       whole = A.asked.whole;
       is = λ x key items S q u rest Q m H. f.is z T B E key items (lookup S) (piece_in x (lookup S) u rest) (given x key items S q u rest Q m H);
     }
 
-    pub missed-lack : {w₂ a : List ℕ} {r : Lack} → LackIs T B E base piece w₁ w₂ a r → MissedIs T B E base item i w w₂ a r
+    pub missed-lack : {w₂ a : List ℕ} {r : Maybe ℕ} → LackIs T B E base piece w₁ w₂ a r → MissedIs T B E base item i w w₂ a r
     missed-lack k = record {
       left = left-then before k.left;
       whole = k.whole;
@@ -225,7 +226,7 @@ pub loop-lowers : {T : List ℕ} {i end next : ℕ} → NextIs T i end next → 
 loop-lowers n l = omega (arith, n.more, n.upto)
 
 module _ {T B E : List ℕ} {base item from : ℕ} {w : List ℕ} {i : ℕ} {w₁ b₁ : List ℕ} (I : LoopInv T B E base item from w i w₁ b₁) {end : ℕ} (e : EndIs T item end) where
-  pub loop-ends : end ≤ i → AheadIs T B E base item from w w₁ b₁ Awaited.Nothing
+  pub loop-ends : end ≤ i → AheadIs T B E base item from w w₁ b₁ None
   loop-ends f = record {
     left = I.left;
     whole = I.whole;
@@ -236,7 +237,7 @@ module _ {T B E : List ℕ} {base item from : ℕ} {w : List ℕ} {i : ℕ} {w�
         subst (λ (ps : Pieces). Passes x (lookup S) u first ps) z h.passes;
   }
 
-  module _ {w₂ b₂ : List ℕ} {r : Lack} (l : i < end) (k : MissedIs T B E base item i w₁ w₂ b₂ r) where
+  module _ {w₂ b₂ : List ℕ} {r : Maybe ℕ} (l : i < end) (k : MissedIs T B E base item i w₁ w₂ b₂ r) where
     step : (x : Setting) (key : ℕ → Text) (items : ℕ) (S : Trail Answer) (q : ℕ) (u : Unresolved) (first : Pieces)
         (Q : Questioned x key items T B E S base item q u) (H : Behind T (item + 1) u.pieces from first)
         → MissedCase (piece_in x (lookup S) u (I.is x key items S q u first Q H).rest) r
@@ -244,7 +245,7 @@ module _ {T B E : List ℕ} {base item from : ℕ} {w : List ℕ} {i : ℕ} {w�
         let h = I.is x key items S q u first Q H in
         k.is x key items S q u h.rest Q (omega (arith, e.is)) h.behind
 
-    pub loop-needs : {d : ℕ} → r ≡ Lack.Needs d → AheadIs T B E base item from w w₂ b₂ (Awaited.Needs d i)
+    pub loop-needs : {d : ℕ} → r ≡ Some d → AheadIs T B E base item from w w₂ b₂ (Some (record { question = d; piece = i }))
     loop-needs {d} z = record {
       left = left-then I.left k.left;
       whole = k.whole;
@@ -255,7 +256,7 @@ module _ {T B E : List ℕ} {base item from : ℕ} {w : List ℕ} {i : ℕ} {w�
           record { rest = h.rest; behind = h.behind; passes = h.passes; misses = m };
     }
 
-    pub loop-goes : {next : ℕ} → r ≡ Lack.Nothing → NextIs T i end next → LoopInv T B E base item from w next w₂ b₂
+    pub loop-goes : {next : ℕ} → r ≡ None → NextIs T i end next → LoopInv T B E base item from w next w₂ b₂
     loop-goes {next} z n = record {
       left = left-then I.left k.left;
       whole = k.whole;

@@ -1,5 +1,6 @@
 -- What looking ahead promises. Needs are those of the theory (Skeletons); a position among the pieces is eval_unresolved's `Behind`.
-use Rattle.std.specs.Prelude.{◌≡◌, ℕ, ◌+◌, ◌≤◌, ◌<◌, Bool, true, List}
+use Rattle.std.specs.Prelude.{◌≡◌, ℕ, ◌+◌, ◌≤◌, ◌<◌, Bool, true, List, Some, None}
+use Rattle.std.specs.declared.option.Option.{Option as Maybe}
 use Rattle.std.proofs.Math.Option.{Option}
 use Rattle.answers.specs.Ask.{Trail, lookup, missing}
 use Rattle.rules.specs.Bytes.{Text}
@@ -20,7 +21,6 @@ use Rattle.eval_pieces.specs.declared.Piece.{Piece}
 use Rattle.eval_pieces.specs.Cursor.Contracts.{end_c}
 use Rattle.eval_question_laws.specs.Clauses.{Asked, Questioned}
 use Rattle.eval_unresolved.specs.Pieces.Contracts.{Behind}
-use Rattle.eval_ahead.specs.declared.Lack.{Lack}
 use Rattle.eval_ahead.specs.declared.Awaited.{Awaited}
 
 -- ---- where the looking begins
@@ -57,11 +57,11 @@ pub record FinishedIs (w : List ℕ) (piece : Piece) (r : Bool) : Type 0 where
   pub is : r ≡ true → (T B E : List ℕ) (key : ℕ → Text) (items : ℕ) (known : ℕ → Option Answer) (g : Given Answer)
       → PieceCase (answers_of key items T B) known E w g piece → Found g
 
-abbrev pub MissedCase : Given Answer → Lack → Type 0
-MissedCase g Lack.Nothing = Found g
-MissedCase g (Lack.Needs d) = g ≡ missing d
+abbrev pub MissedCase : Given Answer → Maybe ℕ → Type 0
+MissedCase g None = Found g
+MissedCase g (Some d) = g ≡ missing d
 
-pub record LackIs (T B E : List ℕ) (base : ℕ) (piece : Piece) (w w' after : List ℕ) (r : Lack) : Type 0 where
+pub record LackIs (T B E : List ℕ) (base : ℕ) (piece : Piece) (w w' after : List ℕ) (r : Maybe ℕ) : Type 0 where
   pub left : Left base w w'
   pub whole : Room after
   pub is : (key : ℕ → Text) (items : ℕ) (known : ℕ → Option Answer) (g : Given Answer) → PieceCase (answers_of key items T B) known E w g piece → MissedCase g r
@@ -70,7 +70,7 @@ pub record MissedAsked (B E w room : List ℕ) (base item i : ℕ) : Type 0 wher
   pub asked : Asked B E w room base item
   pub piece : i < capacity
 
-pub record MissedIs (T B E : List ℕ) (base item i : ℕ) (w w' after : List ℕ) (r : Lack) : Type 0 where
+pub record MissedIs (T B E : List ℕ) (base item i : ℕ) (w w' after : List ℕ) (r : Maybe ℕ) : Type 0 where
   pub left : Left base w w'
   pub whole : Room after
   pub is : (x : Setting) (key : ℕ → Text) (items : ℕ) (S : Trail Answer) (b : ℕ) (u : Unresolved) (rest : Pieces)
@@ -90,15 +90,15 @@ pub record Stops (x : Setting) (known : ℕ → Option Answer) (u : Unresolved) 
   pub passes : Passes x known u first rest
   pub misses : piece_in x known u rest ≡ missing d
 
-abbrev pub AheadCase : Setting → (ℕ → Option Answer) → Unresolved → List ℕ → ℕ → Pieces → Awaited → Type 0
-AheadCase x known u T item first Awaited.Nothing = Passes x known u first no_pieces
-AheadCase x known u T item first (Awaited.Needs d p) = Stops x known u T item first d p
+abbrev pub AheadCase : Setting → (ℕ → Option Answer) → Unresolved → List ℕ → ℕ → Pieces → Maybe Awaited → Type 0
+AheadCase x known u T item first None = Passes x known u first no_pieces
+AheadCase x known u T item first (Some a) = Stops x known u T item first a.question a.piece
 
-abbrev pub AwaitedWithin : Awaited → Type 0
-AwaitedWithin Awaited.Nothing = Unit {0}
-AwaitedWithin (Awaited.Needs d p) = p < capacity
+abbrev pub AwaitedWithin : Maybe Awaited → Type 0
+AwaitedWithin None = Unit {0}
+AwaitedWithin (Some a) = a.piece < capacity
 
-pub record AheadIs (T B E : List ℕ) (base item from : ℕ) (w w' after : List ℕ) (r : Awaited) : Type 0 where
+pub record AheadIs (T B E : List ℕ) (base item from : ℕ) (w w' after : List ℕ) (r : Maybe Awaited) : Type 0 where
   pub left : Left base w w'
   pub whole : Room after
   pub within : AwaitedWithin r

@@ -14,18 +14,11 @@ use eval_pieces::{Piece, piece_of};
 use eval_stack::code_at;
 use eval_unresolved::single::{PieceValue, value_of};
 
-/// What one piece misses.
-#[derive(Clone, Copy)]
-pub enum Lack {
-    Nothing,
-    Needs(usize),
-}
-
 /// What the pieces miss: the question, and the item of the piece that misses it.
 #[derive(Clone, Copy)]
-pub enum Awaited {
-    Nothing,
-    Needs { question: usize, piece: usize },
+pub struct Awaited {
+    pub question: usize,
+    pub piece: usize,
 }
 
 /// The piece from which an unresolved value is looked at: its first. Where there are two at most, it is evaluated as it stands, and this is the end of
@@ -70,7 +63,7 @@ fn is_finished(work: &[u16], piece: Piece) -> bool
     }
 }
 
-// What a piece misses; whatever else it comes to, nothing is missing.
+// The question that a piece misses; whatever else it comes to, nothing is missing.
 fn lack_of(
     table: &[u16],
     bytes: &[u8],
@@ -79,16 +72,16 @@ fn lack_of(
     base: usize,
     room: &mut [u8],
     piece: Piece,
-) -> Lack
+) -> Option<usize>
     requires { PieceAsked bytes.now env.now work.old base room.old piece }
     ensures { LackIs table.now bytes.now env.now base piece work.old work.new
         room.new result }
 {
     match value_of(table, bytes, env, work, base, room, piece) {
-        PieceValue::Needs(b) => Lack::Needs(b),
-        PieceValue::Done(e) => Lack::Nothing,
-        PieceValue::Undefined => Lack::Nothing,
-        PieceValue::Missing(place) => Lack::Nothing,
+        PieceValue::Needs(b) => Some(b),
+        PieceValue::Done(e) => None,
+        PieceValue::Undefined => None,
+        PieceValue::Missing(place) => None,
     }
 }
 
@@ -102,14 +95,14 @@ fn missed(
     room: &mut [u8],
     item: usize,
     i: usize,
-) -> Lack
+) -> Option<usize>
     requires { MissedAsked bytes.now env.now work.old room.old base item i }
     ensures { MissedIs table.now bytes.now env.now base item i work.old work.new
         room.new result }
 {
     let piece = piece_of(table, bytes, env, work, base, item, i);
     if is_finished(work, piece) {
-        return Lack::Nothing;
+        return None;
     }
     lack_of(table, bytes, env, work, base, room, piece)
 }
@@ -124,7 +117,7 @@ pub fn ahead(
     room: &mut [u8],
     item: usize,
     from: usize,
-) -> Awaited
+) -> Option<Awaited>
     requires { Asked bytes.now env.now work.old room.old base item }
     ensures { AheadIs table.now bytes.now env.now base item from work.old work.new
         room.new result }
@@ -132,17 +125,10 @@ pub fn ahead(
     let end = pieces_end(table, item);
     let mut i = from;
     while i < end {
-        match missed(table, bytes, env, work, base, room, item, i) {
-            Lack::Needs(b) => {
-                return Awaited::Needs {
-                    question: b,
-                    piece: i,
-                };
-            }
-            Lack::Nothing => {
-                i = next_piece(table, i, end);
-            }
+        if let Some(question) = missed(table, bytes, env, work, base, room, item, i) {
+            return Some(Awaited { question, piece: i });
         }
+        i = next_piece(table, i, end);
     }
-    Awaited::Nothing
+    None
 }

@@ -5,6 +5,8 @@ use mathlib.Core.Bool.{Bool, true, false}
 use mathlib.Core.List.{List}
 use mathlib.Core.Option.{none, some}
 use native.Mathlib.Omega.{arith}
+use Rattle.std.specs.Prelude.{Some, None}
+use Rattle.std.specs.declared.option.Option.{Option as Maybe}
 use lib.ListN.{length}
 use lib.Seq.{slice}
 use Rattle.answers.specs.Ask.{refused}
@@ -14,15 +16,13 @@ use Rattle.rules.specs.Environment.{Variable, entries_of, text_of}
 use Rattle.rules.specs.Tree.{Substitution}
 use Rattle.rules.specs.Unresolved.{dotted}
 use Rattle.theory.specs.SettledAnswers.{or_environment_in}
-use Rattle.text_chars.specs.declared.EnvAt.{EnvAt}
-use Rattle.text_chars.specs.declared.EnvLen.{EnvLen}
 use Rattle.doc_items.specs.Codes.{reference_code}
 use Rattle.doc_items.specs.Writing.{ReadIs}
 use Rattle.eval_environment.specs.Model.{elements_c, path_c}
 use Rattle.eval_environment.specs.Paths.{path-is}
 use Rattle.eval_environment.specs.Clauses.{AnyNumber, FoundInside, FindIs, NameIs, SubstitutionAt, AskedIs}
 use Rattle.eval_environment.specs.declared.Asked.{Asked}
-use Rattle.eval_environment.specs.declared.Found.{Found}
+use Rattle.eval_environment.specs.declared.Part.{Part}
 
 -- ---- the path by the item's numbers
 
@@ -31,42 +31,42 @@ module _ {T : List ℕ} (X : List ℕ) (i : ℕ) {at len count : ℕ} (p : ReadI
   unfolding path_c
   path-read = rw (p.is, q.is, r.is, path_c)
 
-  pub name-is : {env : List ℕ} {f : Found} → FindIs env (dotted (elements_c X at (at + len) count 0)) f → NameIs T X env i f
+  pub name-is : {env : List ℕ} {f : Maybe Part} → FindIs env (dotted (elements_c X at (at + len) count 0)) f → NameIs T X env i f
   name-is g = record { is = rw path-read at g }
 
 -- ---- a name's text
 
-module _ {s n : List ℕ} {r : Found} (h : FindIs s n r) where
-  found_inside : {start : EnvAt} {size : EnvLen} → r ≡ Found.Text start size → start.0 + size.0 ≤ length s
-  found_inside {start} {size} e = let i : FoundInside (length s) (Found.Text start size) = rw e at h.inside in i
+module _ {s n : List ℕ} {r : Maybe Part} (h : FindIs s n r) where
+  found_inside : {p : Part} → r ≡ Some p → p.start.0 + p.size.0 ≤ length s
+  found_inside {p} e = let i : FoundInside (length s) (Some p) = rw e at h.inside in i
 
   module _ {es : List Variable} (k : entries_of s ≡ some es) where
-    found-is : {start : EnvAt} {size : EnvLen} → r ≡ Found.Text start size → text_of es n ≡ some (slice start.0 (start.0 + size.0) s)
+    found-is : {p : Part} → r ≡ Some p → text_of es n ≡ some (slice p.start.0 (p.start.0 + p.size.0) s)
     found-is e = sym (rw e at (h.is es k))
 
-    nothing_is : r ≡ Found.Nothing → text_of es n ≡ none
+    nothing_is : r ≡ None → text_of es n ≡ none
     nothing_is e = sym (rw e at (h.is es k))
 
 -- ---- what the substitution comes to
 
-module _ {T X env : List ℕ} {i : ℕ} {r : Found} (h : NameIs T X env i r) where
+module _ {T X env : List ℕ} {i : ℕ} {r : Maybe Part} (h : NameIs T X env i r) where
   -- the name that is asked for is the substitution's
   name_of : (x : Substitution) → SubstitutionAt T X i x → path_c T X i ≡ x.path
   name_of x s = path-is T X i s.lo s.hi AnyNumber s.high x s.item
 
-  found-text : {start : EnvAt} {size : EnvLen} → r ≡ Found.Text start size → (es : List Variable) → entries_of env ≡ some es
-      → (x : Substitution) → SubstitutionAt T X i x → text_of es (dotted x.path) ≡ some (slice start.0 (start.0 + size.0) env)
+  found-text : {p : Part} → r ≡ Some p → (es : List Variable) → entries_of env ≡ some es
+      → (x : Substitution) → SubstitutionAt T X i x → text_of es (dotted x.path) ≡ some (slice p.start.0 (p.start.0 + p.size.0) env)
   found-text e es k x s = ap (λ (p : List Text). text_of es (dotted p)) (sym (name_of x s)) ∙ found-is h.is k e
 
-  found_none : r ≡ Found.Nothing → (es : List Variable) → entries_of env ≡ some es → (x : Substitution) → SubstitutionAt T X i x
+  found_none : r ≡ None → (es : List Variable) → entries_of env ≡ some es → (x : Substitution) → SubstitutionAt T X i x
       → text_of es (dotted x.path) ≡ none
   found_none e es k x s = ap (λ (p : List Text). text_of es (dotted p)) (sym (name_of x s)) ∙ nothing_is h.is k e
 
-  pub asked-text : {start : EnvAt} {size : EnvLen} → r ≡ Found.Text start size → AskedIs T X env i (Asked.Text start size)
+  pub asked-text : {p : Part} → r ≡ Some p → AskedIs T X env i (Asked.Text p.start p.size)
   unfolding or_environment_in
   asked-text e = record { is = λ es k x s. rw (or_environment_in, found-text e es k x s); inside = found_inside h.is e }
 
-  module _ {k : ℕ} (kind : ReadIs T (8 * i) k) (e : r ≡ Found.Nothing) where
+  module _ {k : ℕ} (kind : ReadIs T (8 * i) k) (e : r ≡ None) where
     optional-is : (x : Substitution) → SubstitutionAt T X i x → k ≡ 26 → x.optional ≡ true
     optional-is x s f = go x.optional (kind.is ∙ s.item.kind)
       where

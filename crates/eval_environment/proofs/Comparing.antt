@@ -5,6 +5,8 @@ use mathlib.Core.List.{List, [], ◌∷◌, ◌++◌, append-nil}
 use mathlib.Core.Bool.{Bool, true, false}
 use native.Mathlib.Omega.{arith}
 use lib.Dec.{leb, eqb}
+use Rattle.std.specs.Prelude.{Some, None}
+use Rattle.std.specs.declared.option.Option.{Option as Maybe}
 use lib.ListN.{length, get_or, take, drop, length-append, length-drop, take-append-drop}
 use lib.Seq.{drop-cons, drop-drop, length-take-le}
 use borrow.Author.Tests.{le-leb, lt-leb, eq-eqb, ne_eqb, eqb-true, eqb-false}
@@ -17,7 +19,6 @@ use Rattle.eval_keys.specs.Texts.{by_equal, same_not, same_more, same-less}
 use Rattle.eval_environment.specs.Model.{element_c, elements_c, behind_dots}
 use Rattle.eval_environment.specs.Paths.{dots-dotted}
 use Rattle.eval_environment.specs.Clauses.{DotIs, Compares, ComparedIs}
-use Rattle.eval_environment.specs.declared.Compared.{Compared}
 
 -- ---- texts one behind the other
 
@@ -63,7 +64,7 @@ module _ (X : List ℕ) (at n : ℕ) where
   element-size h = length-take-le n (drop at X) (omega (arith, length-drop at X))
 
 module _ (X : List ℕ) (at n : ℕ) (name : List ℕ) (used : ℕ) where
-  pub compared-none : length X < at + n → used ≤ length name + 1 → ComparedIs X at n name used (Compared.Same used)
+  pub compared-none : length X < at + n → used ≤ length name + 1 → ComparedIs X at n name used (Some used)
   compared-none h u = record { is = (u, λ rest. rw (element-out X at n h)) }
 
   module _ (h : at + n ≤ length X) where
@@ -72,7 +73,7 @@ module _ (X : List ℕ) (at n : ℕ) (name : List ℕ) (used : ℕ) where
         → same (drop used (46 ∷ name)) (behind_dots (element_c X at n []) ++ rest) ≡ b
     beside rest e = ap (λ (t : Text). same (drop used (46 ∷ name)) (t ++ rest)) (element-in X at n h) ∙ e
 
-    pub compared-short : used ≤ length name + 1 → length name < used + n → ComparedIs X at n name used Compared.Different
+    pub compared-short : used ≤ length name + 1 → length name < used + n → ComparedIs X at n name used None
     compared-short u k = record {
       is = λ rest. beside rest (same-short (drop used (46 ∷ name)) (46 ∷ take n (drop at X)) rest
           (omega (arith, element-size X at n h, length-drop used (46 ∷ name))));
@@ -86,7 +87,7 @@ module _ (X : List ℕ) (at n : ℕ) (name : List ℕ) (used : ℕ) where
       left-more = sym (take-append-drop n (drop used name)) ∙ ap (λ (t : List ℕ). take n (drop used name) ++ t) (drop-drop n used name)
 
       module _ {f : Bool} (d : DotIs name used f) where
-        pub compared-other : f ≡ false → ComparedIs X at n name used Compared.Different
+        pub compared-other : f ≡ false → ComparedIs X at n name used None
         compared-other e = record {
           is = λ rest. beside rest
               (ap (λ (t : List ℕ). same t ((46 ∷ take n (drop at X)) ++ rest)) left
@@ -111,7 +112,7 @@ module _ (X : List ℕ) (at n : ℕ) (name : List ℕ) (used : ℕ) where
               (eqb-true (get_or (46 ∷ name) used 0) 46 (sym d.is ∙ e))
               ∙ ap (λ (t : List ℕ). same t (take n (drop at X) ++ rest)) left-more ∙ q)
 
-          pub compared_same : g ≡ true → ComparedIs X at n name used (Compared.Same (used + 1 + n))
+          pub compared_same : g ≡ true → ComparedIs X at n name used (Some (used + 1 + n))
           compared_same q =
               let t : take n (drop used name) ≡ take n (drop at X) = same-eq (take n (drop used name)) (take n (drop at X)) (sym texts ∙ q) in
               let z : used + 1 + n ≡ suc (used + n) = omega arith in
@@ -124,7 +125,7 @@ module _ (X : List ℕ) (at n : ℕ) (name : List ℕ) (used : ℕ) where
                 );
               }
 
-          pub compared-differ : g ≡ false → ComparedIs X at n name used Compared.Different
+          pub compared-differ : g ≡ false → ComparedIs X at n name used None
           compared-differ q = record {
             is = λ rest. behind rest
                 (same-other (take n (drop used name)) (take n (drop at X)) (drop (used + n) name) rest
@@ -170,82 +171,84 @@ at-end name used u =
     (λ e. none_left (drop used (46 ∷ name)) (omega arith) ∙ sym (eq-eqb used (length name + 1) e))
     (λ n. some_left (drop used (46 ∷ name)) (omega (arith, n)) ∙ sym (ne_eqb used (length name + 1) n))
 
--- What is left of a dot and the name, beside what is left of the path's elements.
-pub record Comparing (X : List ℕ) (at end₀ count : ℕ) (name : List ℕ) (ends left from used : ℕ) : Type 0 where
-  pub is : same (46 ∷ name) (behind_dots (elements_c X at end₀ count 0)) ≡ same (drop used (46 ∷ name)) (behind_dots (elements_c X at ends left from))
+-- What is left of a dot and the name, beside what is left of the path's elements behind so many of them.
+pub record Comparing (X : List ℕ) (at ends count : ℕ) (name : List ℕ) (i from used : ℕ) : Type 0 where
+  pub is : same (46 ∷ name) (behind_dots (elements_c X at ends count 0))
+      ≡ same (drop used (46 ∷ name)) (behind_dots (elements_c X at (ends + 2 * i) (count - i) from))
   pub upto : used ≤ length name + 1
-  pub low : left ≤ count
-  pub near : ends ≡ end₀ + 2 * (count - left)
+  pub low : i ≤ count
   pub begin : from ≤ 65792
-  pub far : end₀ ≤ 131070
+  pub far : ends ≤ 131070
   pub many : count < 65536
   pub first : at < 65536
 
 pub comparing-start : {X : List ℕ} {at count : ℕ} (len : ℕ) {name : List ℕ} → at < 65536 → len < 65536 → count < 65536
-    → Comparing X at (at + len) count name (at + len) count 0 0
-comparing-start len h k l = record {
-  is = refl;
-  upto = omega arith;
-  low = omega arith;
-  near = omega arith;
-  begin = omega arith;
-  far = omega arith;
-  many = l;
-  first = h;
-}
+    → Comparing X at (at + len) count name 0 0 0
+comparing-start {X} {at} {count} len {name} h k l =
+    let z : at + len + 2 * 0 ≡ at + len = omega arith in
+    let y : count - 0 ≡ count = omega arith in
+    record {
+      is = rw (z, y) refl;
+      upto = omega arith;
+      low = omega arith;
+      begin = omega arith;
+      far = omega arith;
+      many = l;
+      first = h;
+    }
 
-module _ {X : List ℕ} {at end₀ count : ℕ} {name : List ℕ} {ends left from used : ℕ} (I : Comparing X at end₀ count name ends left from used) where
-  pub path-end : left ≤ 0 → 0 < length name → eqb used (length name + 1) ≡ same name (dotted (elements_c X at end₀ count 0))
+module _ {X : List ℕ} {at ends count : ℕ} {name : List ℕ} {i from used : ℕ} (I : Comparing X at ends count name i from used) where
+  pub path-end : count ≤ i → 0 < length name → eqb used (length name + 1) ≡ same name (dotted (elements_c X at ends count 0))
   unfolding elements_c behind_dots
   path-end h some =
-      let z : left ≡ 0 = omega arith in
+      let z : count - i ≡ 0 = omega arith in
       sym
-      (dotted-same name (elements_c X at end₀ count 0) some ∙ I.is
-      ∙ ap (λ (n : ℕ). same (drop used (46 ∷ name)) (behind_dots (elements_c X at ends n from))) z ∙ at-end name used I.upto)
+      (dotted-same name (elements_c X at ends count 0) some ∙ I.is
+      ∙ ap (λ (n : ℕ). same (drop used (46 ∷ name)) (behind_dots (elements_c X at (ends + 2 * i) n from))) z ∙ at-end name used I.upto)
 
-  module _ {end n : ℕ} (h : 0 < left) (p : PairIs X ends end) (e : n ≡ end - from) {r : Compared} (c : ComparedIs X (at + from) n name used r) where
+  module _ {end n : ℕ} (h : i < count) (p : PairIs X (ends + 2 * i) end) (e : n ≡ end - from) {r : Maybe ℕ} (c : ComparedIs X (at + from) n name used r) where
     -- the next element, and those behind it
-    next : behind_dots (elements_c X at ends left from) ≡ behind_dots (element_c X (at + from) n []) ++ behind_dots (elements_c X at (ends + 2) (left - 1) end)
+    next : behind_dots (elements_c X at (ends + 2 * i) (count - i) from)
+        ≡ behind_dots (element_c X (at + from) n []) ++ behind_dots (elements_c X at (ends + 2 * (i + 1)) (count - (i + 1)) end)
     unfolding elements_c
     next =
-        let rest = elements_c X at (ends + 2) (left - 1) end in
-        let m : left ≡ suc (left - 1) = omega arith in
+        let rest = elements_c X at (ends + 2 * i + 2) (count - (i + 1)) end in
+        let m : count - i ≡ suc (count - (i + 1)) = omega arith in
+        let y : ends + 2 * i + 2 ≡ ends + 2 * (i + 1) = omega arith in
         sym
-        (sym (dots-element X (at + from) n rest)
+        (ap (λ (q : ℕ). behind_dots (element_c X (at + from) n []) ++ behind_dots (elements_c X at q (count - (i + 1)) end)) (sym y)
+        ∙ sym (dots-element X (at + from) n rest)
         ∙ ap (λ (q : ℕ). behind_dots (element_c X (at + from) q rest)) e
-        ∙ ap (λ (q : ℕ). behind_dots (element_c X (at + from) (q - from) (elements_c X at (ends + 2) (left - 1) q))) p.is
-        ∙ ap (λ (q : ℕ). behind_dots (elements_c X at ends q from)) (sym m))
+        ∙ ap (λ (q : ℕ). behind_dots (element_c X (at + from) (q - from) (elements_c X at (ends + 2 * i + 2) (count - (i + 1)) q))) p.is
+        ∙ ap (λ (q : ℕ). behind_dots (elements_c X at (ends + 2 * i) q from)) (sym m))
 
-    pub path-differ : r ≡ Compared.Different → 0 < length name → false ≡ same name (dotted (elements_c X at end₀ count 0))
+    pub path-differ : r ≡ None → 0 < length name → false ≡ same name (dotted (elements_c X at ends count 0))
     path-differ d some =
-        let z : Compares X (at + from) n name used Compared.Different = rw d at c.is in
+        let z : Compares X (at + from) n name used None = rw d at c.is in
         sym
-        (dotted-same name (elements_c X at end₀ count 0) some ∙ I.is
-        ∙ ap (λ (t : Text). same (drop used (46 ∷ name)) t) next ∙ z (behind_dots (elements_c X at (ends + 2) (left - 1) end)))
+        (dotted-same name (elements_c X at ends count 0) some ∙ I.is
+        ∙ ap (λ (t : Text). same (drop used (46 ∷ name)) t) next ∙ z (behind_dots (elements_c X at (ends + 2 * (i + 1)) (count - (i + 1)) end)))
 
-    pub comparing-step : {more : ℕ} → r ≡ Compared.Same more → Comparing X at end₀ count name (ends + 2) (left - 1) end more
+    pub comparing-step : {more : ℕ} → r ≡ Some more → Comparing X at ends count name (i + 1) end more
     comparing-step {more} d =
-        let z : Compares X (at + from) n name used (Compared.Same more) = rw d at c.is in
-        let low = I.low in
-        let near = I.near in
+        let z : Compares X (at + from) n name used (Some more) = rw d at c.is in
         record {
-          is = I.is ∙ ap (λ (t : Text). same (drop used (46 ∷ name)) t) next ∙ z.1 (behind_dots (elements_c X at (ends + 2) (left - 1) end));
+          is = I.is ∙ ap (λ (t : Text). same (drop used (46 ∷ name)) t) next ∙ z.1 (behind_dots (elements_c X at (ends + 2 * (i + 1)) (count - (i + 1)) end));
           upto = z.0;
           low = omega arith;
-          near = omega arith;
           begin = p.small;
           far = I.far;
           many = I.many;
           first = I.first;
         }
 
-  pub comparing-ends : ends ≤ 1048576
-  comparing-ends = let n = I.near in let m = I.many in let f = I.far in omega arith
+  pub comparing-ends : i < count → ends + 2 * i ≤ 1048576
+  comparing-ends h = let m = I.many in let f = I.far in omega arith
 
   pub comparing-at : at + from ≤ 1048576
   comparing-at = let h = I.begin in let f = I.first in omega arith
 
-  pub comparing-len : {end n : ℕ} → PairIs X ends end → n ≡ end - from → n ≤ 1048576
+  pub comparing-len : {end n : ℕ} → PairIs X (ends + 2 * i) end → n ≡ end - from → n ≤ 1048576
   comparing-len p e = let s = p.small in omega arith
 
 pub ruleset comparisons = (arith, comparing-start, path-end, path-differ, comparing-step, comparing-ends, comparing-at, comparing-len)

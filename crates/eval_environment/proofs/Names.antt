@@ -5,6 +5,7 @@ use mathlib.Core.List.{List, [], ◌∷◌}
 use mathlib.Core.Option.{Option, none, some}
 use Prim.Native.Nat.{ℕ, ◌+◌, ◌-◌, ◌≤◌, ◌<◌}
 use native.Mathlib.Omega.{arith}
+use Rattle.std.specs.Prelude.{Some, None}
 use lib.ListN.{length, take, drop, length-drop, drop_of_length-le}
 use lib.Seq.{slice, length-take-le}
 use Rattle.rules.specs.Sizes.{max_environment}
@@ -19,10 +20,13 @@ use Rattle.text_chars.specs.Clash.{clash}
 use Rattle.text_chars.specs.declared.EnvAt.{EnvAt}
 use Rattle.text_chars.specs.declared.EnvLen.{EnvLen}
 use Rattle.eval_environment.specs.Clauses.{FindIs}
-use Rattle.eval_environment.specs.declared.Found.{Found}
+use Rattle.eval_environment.specs.declared.Part.{Part}
 
 abbrev bytes_of : ℕ → EnvLen
 bytes_of n = record { 0 = n }
+
+abbrev part_of : EnvAt → EnvLen → Part
+part_of start size = record { start = start; size = size }
 
 -- an entry and others behind it
 with-inv : (e : Variable) (o : Option (List Variable)) (es : List Variable) → with_variable e o ≡ some es
@@ -39,7 +43,7 @@ pub look-start : {s n : List ℕ} → Looking s n 0
 look-start {s} = record { is = λ es e. (es, (accepted-is s es e).1, refl); to = omega arith }
 
 module _ {s n : List ℕ} {at : ℕ} (L : Looking s n at) where
-  pub look-end : length s ≤ at → FindIs s n Found.Nothing
+  pub look-end : length s ≤ at → FindIs s n None
   unfolding name_from text_of
   look-end h = record {
     is = λ es e.
@@ -51,7 +55,7 @@ module _ {s n : List ℕ} {at : ℕ} (L : Looking s n at) where
   }
 
   module _ {r : Maybe Parts} (h : EntryIs s at r) where
-    pub look-broken : r ≡ None → FindIs s n Found.Nothing
+    pub look-broken : r ≡ None → FindIs s n None
     look-broken b = record {
       is = λ es e.
           let i : EntryAt s at None = rw b at h.is in
@@ -95,7 +99,7 @@ module _ {s n : List ℕ} {at : ℕ} (L : Looking s n at) where
       name-short l = omega (arith, name-size, i.1, i.2)
 
       pub look-found : {f : Bool} → f ≡ same (take (p.equals.0 - at) (drop at s)) n → f ≡ true
-          → FindIs s n (Found.Text (env (p.equals.0 + 1)) (bytes_of (p.zero.0 - p.equals.0 - 1)))
+          → FindIs s n (Some (part_of (env (p.equals.0 + 1)) (bytes_of (p.zero.0 - p.equals.0 - 1))))
       look-found k g =
           let l : p.equals.0 + 1 + (p.zero.0 - p.equals.0 - 1) ≡ p.zero.0 = omega (arith, i.1) in
           record {

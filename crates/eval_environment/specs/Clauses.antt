@@ -1,5 +1,6 @@
 -- What the functions promise: by the model for any bytes, and of a substitution that the table holds.
-use Rattle.std.specs.Prelude.{◌≡◌, ℕ, ◌+◌, ◌*◌, ◌≤◌, ◌<◌, Bool, false, List, [], ◌∷◌, ◌++◌, eqb, length, get_or, drop}
+use Rattle.std.specs.Prelude.{◌≡◌, ℕ, ◌+◌, ◌*◌, ◌≤◌, ◌<◌, Bool, false, List, [], ◌∷◌, ◌++◌, eqb, length, get_or, drop, Some, None}
+use Rattle.std.specs.declared.option.Option.{Option as Maybe}
 use Rattle.std.proofs.Math.Option.{Option, none, some}
 use Rattle.std.proofs.Math.Seq.{slice}
 use Rattle.answers.specs.Ask.{value, refused}
@@ -17,8 +18,7 @@ use Rattle.doc_items.specs.Holds.{ReferenceAt}
 use Rattle.doc_items.specs.Parts.{numbers, letters}
 use Rattle.eval_environment.specs.Model.{element_c, path_c, behind_dots}
 use Rattle.eval_environment.specs.declared.Asked.{Asked}
-use Rattle.eval_environment.specs.declared.Compared.{Compared}
-use Rattle.eval_environment.specs.declared.Found.{Found}
+use Rattle.eval_environment.specs.declared.Part.{Part}
 
 -- an offset in a job's bytes, and a length: sums of them do not wrap
 abbrev pub most_bytes : ℕ
@@ -37,14 +37,14 @@ pub record CompareAsked (name : List ℕ) (used at n : ℕ) : Type 0 where
   pub short : n ≤ most_bytes
 
 -- what is left of a dot and a name, beside an element and what stands behind it
-abbrev pub Compares : List ℕ → ℕ → ℕ → List ℕ → ℕ → Compared → Type 0
-Compares X at n name used (Compared.Same more) =
+abbrev pub Compares : List ℕ → ℕ → ℕ → List ℕ → ℕ → Maybe ℕ → Type 0
+Compares X at n name used (Some more) =
     (more ≤ length name + 1)
     × ((rest : Text) → same (drop used (46 ∷ name)) (behind_dots (element_c X at n []) ++ rest) ≡ same (drop more (46 ∷ name)) rest)
-Compares X at n name used Compared.Different =
+Compares X at n name used None =
     (rest : Text) → same (drop used (46 ∷ name)) (behind_dots (element_c X at n []) ++ rest) ≡ false
 
-pub record ComparedIs (X : List ℕ) (at n : ℕ) (name : List ℕ) (used : ℕ) (r : Compared) : Type 0 where
+pub record ComparedIs (X : List ℕ) (at n : ℕ) (name : List ℕ) (used : ℕ) (r : Maybe ℕ) : Type 0 where
   pub is : Compares X at n name used r
 
 -- the numbers of an item that a path has, and a name of an environment, which is not empty
@@ -64,16 +64,16 @@ pub record FindAsked (env : List ℕ) (at len count : ℕ) : Type 0 where
   pub few : count < number_bound
 
 -- the text that an answer names
-abbrev pub found_text : List ℕ → Found → Option Text
-found_text s (Found.Text start size) = some (slice start.0 (start.0 + size.0) s)
-found_text s Found.Nothing = none
+abbrev pub found_text : List ℕ → Maybe Part → Option Text
+found_text s (Some p) = some (slice p.start.0 (p.start.0 + p.size.0) s)
+found_text s None = none
 
-abbrev pub FoundInside : ℕ → Found → Type 0
-FoundInside len (Found.Text start size) = start.0 + size.0 ≤ len
-FoundInside len Found.Nothing = Unit {0}
+abbrev pub FoundInside : ℕ → Maybe Part → Type 0
+FoundInside len (Some p) = p.start.0 + p.size.0 ≤ len
+FoundInside len None = Unit {0}
 
 -- the text of a name where the environment has entries; and what is answered stands inside the environment
-pub record FindIs (s n : List ℕ) (r : Found) : Type 0 where
+pub record FindIs (s n : List ℕ) (r : Maybe Part) : Type 0 where
   pub is : (es : List Variable) → entries_of s ≡ some es → found_text s r ≡ text_of es n
   pub inside : FoundInside (length s) r
 
@@ -81,7 +81,7 @@ pub record NameAsked (env : List ℕ) (i : ℕ) : Type 0 where
   pub size : length env ≤ max_environment
   pub item : i < number_bound
 
-pub record NameIs (T X env : List ℕ) (i : ℕ) (r : Found) : Type 0 where
+pub record NameIs (T X env : List ℕ) (i : ℕ) (r : Maybe Part) : Type 0 where
   pub is : FindIs env (dotted (path_c T X i)) r
 
 -- ---- of the answer: what a substitution comes to whose path is undefined

@@ -38,15 +38,6 @@ fn between(from: usize, to: usize) -> usize
     if to < from { 0 } else { to - from }
 }
 
-// An element of a path beside a name.
-#[derive(Clone, Copy)]
-enum Compared {
-    // they agree, and so many bytes of a dot and the name are passed
-    Same { used: usize },
-    // the name is another
-    Different,
-}
-
 // Whether a dot stands before a byte of a name: before its first one it always does.
 fn has_dot(name: &[u8], used: usize) -> bool
     requires { used ≤ length name.now }
@@ -58,25 +49,32 @@ fn has_dot(name: &[u8], used: usize) -> bool
     name[used - 1] == DOT
 }
 
-// A dot and an element's text beside what is left of a dot and a name. An element that does not lie in the bytes is none.
-fn compare_element(name: &[u8], used: usize, texts: &[u8], at: TextAt, len: TextLen) -> Compared
+// A dot and an element's text beside what is left of a dot and a name: how many bytes of these are passed then, if they agree. An element that does
+// not lie in the bytes is none.
+fn compare_element(
+    name: &[u8],
+    used: usize,
+    texts: &[u8],
+    at: TextAt,
+    len: TextLen,
+) -> Option<usize>
     requires { CompareAsked name.now used at.0 len.0 }
     ensures { ComparedIs texts.now at.0 len.0 name.now used result }
 {
     let f = at.0;
     let n = len.0;
     if texts.len() < f + n {
-        return Compared::Same { used };
+        return Some(used);
     }
     if name.len() < used + n {
-        return Compared::Different;
+        return None;
     }
     if has_dot(name, used) {
         if same_bytes(&name[used..used + n], &texts[f..f + n]) {
-            return Compared::Same { used: used + 1 + n };
+            return Some(used + 1 + n);
         }
     }
-    Compared::Different
+    None
 }
 
 // Whether a name is the elements of a path joined by dots.
@@ -85,39 +83,34 @@ fn is_path(name: &[u8], texts: &[u8], at: TextAt, len: TextLen, count: usize) ->
     ensures { result ≡ same name.now (dotted (elements_c texts.now at.0 (at.0 + len.0) count 0)) }
 {
     let start = at.0;
-    let mut ends = start + len.0;
-    let mut left = count;
+    let ends = start + len.0;
     let mut from = 0;
     let mut used = 0;
-    while 0 < left {
-        let end = text_pair(texts, TextAt(ends));
+    for i in 0..count {
+        let end = text_pair(texts, TextAt(ends + 2 * i));
         let n = between(from, end);
         match compare_element(name, used, texts, TextAt(start + from), TextLen(n)) {
-            Compared::Different => {
+            None => {
                 return false;
             }
-            Compared::Same { used: more } => {
+            Some(more) => {
                 used = more;
             }
         }
         from = end;
-        ends += 2;
-        left -= 1;
     }
     used == name.len() + 1
 }
 
-// What an environment has for a path.
+// A part of an environment.
 #[derive(Clone, Copy)]
-enum Found {
-    // its text, as a part of the environment
-    Text { start: EnvAt, size: EnvLen },
-    // no entry
-    Nothing,
+struct Part {
+    start: EnvAt,
+    size: EnvLen,
 }
 
 // The text in an environment that is by its rule of a path's elements joined by dots: of the first of equal names.
-fn find_path(env: &[u8], texts: &[u8], path: TextAt, len: TextLen, count: usize) -> Found
+fn find_path(env: &[u8], texts: &[u8], path: TextAt, len: TextLen, count: usize) -> Option<Part>
     requires { FindAsked env.now path.0 len.0 count }
     ensures { FindIs env.now (dotted (elements_c texts.now path.0 (path.0 + len.0) count 0)) result }
 {
@@ -125,26 +118,26 @@ fn find_path(env: &[u8], texts: &[u8], path: TextAt, len: TextLen, count: usize)
     while at < env.len() {
         match entry_at(env, EnvAt(at)) {
             None => {
-                return Found::Nothing;
+                return None;
             }
             Some(Parts { equals, zero }) => {
                 let e = equals.0;
                 let z = zero.0;
                 if is_path(&env[at..e], texts, path, len, count) {
-                    return Found::Text {
+                    return Some(Part {
                         start: EnvAt(e + 1),
                         size: EnvLen(z - e - 1),
-                    };
+                    });
                 }
                 at = z + 1;
             }
         }
     }
-    Found::Nothing
+    None
 }
 
 // The text in an environment of the path of the substitution at item i.
-fn name_in(table: &[u16], texts: &[u8], env: &[u8], i: usize) -> Found
+fn name_in(table: &[u16], texts: &[u8], env: &[u8], i: usize) -> Option<Part>
     requires { NameAsked env.now i }
     ensures { NameIs table.now texts.now env.now i result }
 {
@@ -160,8 +153,11 @@ pub fn or_environment(table: &[u16], texts: &[u8], env: &[u8], i: usize) -> Aske
     ensures { AskedIs table.now texts.now env.now i result }
 {
     match name_in(table, texts, env, i) {
-        Found::Text { start, size } => Asked::Text { start, size },
-        Found::Nothing => {
+        Some(part) => Asked::Text {
+            start: part.start,
+            size: part.size,
+        },
+        None => {
             if number_at(table, WIDTH * i) == PIECE + OPTIONAL {
                 return Asked::Undefined;
             }

@@ -1,14 +1,15 @@
 -- The members of objects: laws for `add_members`, `add_layer` and `members`, one for each return.
+use Rattle.std.specs.Prelude.{Some, None}
 use mathlib.Core.Path.{◌≡◌, refl, sym, ap, ◌∙◌}
 use mathlib.Core.List.{List, ◌++◌}
 use Prim.Native.Nat.{ℕ, ◌+◌, ◌-◌, ◌*◌, ◌≤◌, ◌<◌}
 use native.Mathlib.Omega.{arith}
 use lib.ListN.{length, get_or}
-use Rattle.eval_nodes.specs.Model.{key_at, members_of}
+use Rattle.eval_nodes.specs.Model.{View, key_at, members_of}
 use Rattle.eval_nodes.specs.Clauses.{MemberIs, ViewIs}
 use Rattle.eval_nodes.specs.Members.{members-end, members-skip, members-one, skip-less, one_less, member-small, key-small}
 use Rattle.eval_nodes.specs.declared.Member.{Member}
-use Rattle.eval_nodes.specs.declared.View.{View}
+use Rattle.eval_nodes.specs.declared.Members.{Members}
 use Rattle.eval_stack.specs.Model.{stack_at, code_at, seg}
 use Rattle.eval_stack.specs.Clauses.{CodeIs}
 use Rattle.eval_stack.specs.Pushes.{seg-last}
@@ -52,14 +53,14 @@ module _ {T R : List ℕ} {c : ℕ} {v : View} (h : ViewIs T R c v) where
   unfolding layer_members
   members-by x e = ap (view_members T R) (sym h.is ∙ e)
 
-  pub layer-other : {base : ℕ} {w : List ℕ} {t : ℕ} → v ≡ View.Other → AddMembersIs T R base (layer_members T R c) w t w t
+  pub layer-other : {base : ℕ} {w : List ℕ} {t : ℕ} → v ≡ None → AddMembersIs T R base (layer_members T R c) w t w t
   unfolding add_members_c
-  layer-other {base} {w} {t} e = record { is = sym (ap (λ (l : List ℕ). add_members_c (key_at T R) base l (w, t)) (members-by View.Other e)); len = refl }
+  layer-other {base} {w} {t} e = record { is = sym (ap (λ (l : List ℕ). add_members_c (key_at T R) base l (w, t)) (members-by None e)); len = refl }
 
-  pub layer-object : {base : ℕ} {w : List ℕ} {t p q : ℕ} {w' : List ℕ} {r : ℕ} → v ≡ View.Object p q → AddMembersIs T R base (members_of T R p q) w t w' r
+  pub layer-object : {base : ℕ} {w : List ℕ} {t : ℕ} {m : Members} {w' : List ℕ} {r : ℕ} → v ≡ Some m → AddMembersIs T R base (members_of T R m.first m.end) w t w' r
       → AddMembersIs T R base (layer_members T R c) w t w' r
-  layer-object {base} {w} {t} {p} {q} e a = record {
-    is = a.is ∙ sym (ap (λ (l : List ℕ). add_members_c (key_at T R) base l (w, t)) (members-by (View.Object p q) e));
+  layer-object {base} {w} {t} {m} e a = record {
+    is = a.is ∙ sym (ap (λ (l : List ℕ). add_members_c (key_at T R) base l (w, t)) (members-by (Some m) e));
     len = a.len;
   }
 

@@ -1,7 +1,6 @@
 -- What grouping members computes, on the numbers that it has. Nothing is assumed of them; `key` gives a member's key number.
-use Rattle.std.specs.Prelude.{ℕ, zero, suc, ◌+◌, ◌*◌, Bool, true, false, cond, List, [], ◌∷◌, ◌++◌, ltb, eqb, get_or, set}
-use Rattle.eval_nodes.specs.Model.{view_at, members_of}
-use Rattle.eval_nodes.specs.declared.View.{View}
+use Rattle.std.specs.Prelude.{ℕ, zero, suc, ◌+◌, ◌*◌, Bool, true, false, cond, List, [], ◌∷◌, ◌++◌, ltb, eqb, get_or, set, Some, None}
+use Rattle.eval_nodes.specs.Model.{View, view_at, members_of}
 use Rattle.eval_stack.specs.Model.{stack_at, entries, code_at, link_at}
 
 -- whether p, which stands for k in front of the stack, is a member with k: what is left from before fails a test
@@ -46,8 +45,8 @@ add_members_c key base (c ∷ cs) s = add_members_c key base cs (add_c key base 
 -- ---- the members of objects
 
 abbrev pub view_members : List ℕ → List ℕ → View → List ℕ
-view_members T R View.Other = []
-view_members T R (View.Object p e) = members_of T R p e
+view_members T R None = []
+view_members T R (Some m) = members_of T R m.first m.end
 
 unfoldable pub layer_members : List ℕ → List ℕ → ℕ → List ℕ
 unfolding view_at members_of

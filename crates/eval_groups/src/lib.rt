@@ -15,7 +15,7 @@ ghost use Rattle.eval_stack.specs.Model.{entries, Work};
 ghost use Rattle.eval_groups.specs.Model.{put_entry_c, join_group_c, begin_group_c, layer_members};
 ghost use Rattle.eval_groups.specs.Clauses.{HoldsKeyIs, WorkIs, AddIs, AddMembersIs, MembersIs};
 
-use eval_nodes::{Member, View, key_of};
+use eval_nodes::{Member, key_of};
 use eval_stack::{ENTRIES, LINK, STACK, STRIDE, code_at, link_at};
 
 // Whether p, which stands for the key number k in front of the stack, is a member with k.
@@ -139,8 +139,8 @@ fn add_layer(
     ensures { AddMembersIs table.now records.now base (layer_members table.now records.now layer) work.old top work.new result }
 {
     match eval_nodes::view_of(table, records, layer) {
-        View::Other => top,
-        View::Object { first, end } => add_members(table, records, work, base, top, first, end),
+        None => top,
+        Some(members) => add_members(table, records, work, base, top, members.first, members.end),
     }
 }
 
@@ -149,12 +149,10 @@ pub fn members(table: &[u16], records: &[u8], work: &mut [u16], lo: usize, hi: u
     requires { Few records.now × Work work.old × (hi ≤ entries) }
     ensures { MembersIs table.now records.now lo hi work.old work.new result }
 {
-    let mut i = hi;
     let mut t = hi;
-    while lo < i {
-        let layer = code_at(work, i - 1);
+    for i in (lo..hi).rev() {
+        let layer = code_at(work, i);
         t = add_layer(table, records, work, hi, t, layer);
-        i -= 1;
     }
     t
 }

@@ -8,8 +8,7 @@ ghost use Rattle.eval_stack.specs.Model.{entries, Work};
 ghost use Rattle.eval_stack.specs.Clauses.{Stack};
 ghost use Rattle.eval_groups.specs.Select.Contracts.{LayerSeenIs, SeenIs, FollowIs, DescentIs, TakeIs};
 
-use eval_layers::{Stuck, Taken, of_end, of_other};
-use eval_nodes::View;
+use eval_layers::{Taken, of_end, of_other};
 use eval_nodes::answer::Answered;
 use eval_stack::{code_at, link_at, push};
 
@@ -41,8 +40,8 @@ fn look_layer(table: &[u16], records: &[u8], layer: usize) -> Seen
     ensures { LayerSeenIs table.now records.now layer result }
 {
     match eval_nodes::view_of(table, records, layer) {
-        View::Other => Seen::Other(layer),
-        View::Object { first, end } => Seen::Object(layer),
+        None => Seen::Other(layer),
+        Some(members) => Seen::Object(layer),
     }
 }
 
@@ -67,7 +66,7 @@ fn follow(work: &[u16], base: usize, top: usize, q: usize) -> Descent
     if next < q {
         return Descent::More { top, at: next };
     }
-    let taken = of_end(Stuck::No, base, top);
+    let taken = of_end(None, base, top);
     Descent::End(taken)
 }
 

@@ -21,8 +21,7 @@ pub fn entry_key(table: &[u16], bytes: &[u8], work: &[u16], src: Source, p: usiz
     requires { SourceIn bytes.now src × (p < number_bound) }
     ensures { KeyIs table.now (records_of bytes.now src) (code_at work.now p) result }
 {
-    let rec = src.rec;
-    let from = rec.0;
+    let from = src.rec.0;
     let end = from + limits::ROOM;
     let layer = code_at(work, p);
     key_of(table, &bytes[from..end], layer)
@@ -33,8 +32,7 @@ pub fn element_at(table: &[u16], bytes: &[u8], src: Source, p: usize, e: usize) 
     requires { SourceIn bytes.now src }
     ensures { MemberIs table.now (records_of bytes.now src) p e result }
 {
-    let rec = src.rec;
-    let from = rec.0;
+    let from = src.rec.0;
     let end = from + limits::ROOM;
     member_at(table, &bytes[from..end], p, e)
 }
@@ -51,8 +49,7 @@ pub fn members_from(
     requires { SourceIn bytes.now src × Work work.old × (hi ≤ entries) }
     ensures { MembersIs table.now (records_of bytes.now src) lo hi work.old work.new result }
 {
-    let rec = src.rec;
-    let from = rec.0;
+    let from = src.rec.0;
     let end = from + limits::ROOM;
     members(table, &bytes[from..end], work, lo, hi)
 }
@@ -69,8 +66,7 @@ pub fn take_from(
     requires { SourceIn bytes.now src × Work work.old × (first < number_bound) × (top ≤ entries) }
     ensures { TakeIs table.now (records_of bytes.now src) first top work.old work.new result }
 {
-    let rec = src.rec;
-    let from = rec.0;
+    let from = src.rec.0;
     let end = from + limits::ROOM;
     take(table, &bytes[from..end], work, first, top)
 }

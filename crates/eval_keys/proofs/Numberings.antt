@@ -1,17 +1,20 @@
 -- Numbering the items: laws for `clear`, `add_number`, `number_key` and `number_keys`, one for each return.
 use mathlib.Core.Path.{◌≡◌, refl, sym, ap, ◌∙◌}
-use mathlib.Core.Bool.{true}
-use mathlib.Core.List.{List}
-use Prim.Native.Nat.{ℕ, ◌+◌, ◌*◌, ◌≤◌, ◌<◌}
+use mathlib.Core.Bool.{Bool, true, false}
+use mathlib.Core.List.{List, ◌++◌}
+use Prim.Native.Nat.{ℕ, ◌+◌, ◌*◌, ◌-◌, ◌≤◌, ◌<◌}
 use native.Mathlib.Omega.{arith}
-use lib.ListN.{length, set, length-set}
-use lib.Seq.{get_or-set_same, get_or-set_other}
-use borrow.Author.Tests.{lt-ltb, le-ltb}
+use lib.Dec.{ltb}
+use lib.ListN.{length, set, take, drop, replicate, length-set, length-drop, length-replicate, get_or-replicate, get_or-append}
+use lib.Seq.{length-take-le, get_or-take, get_or-drop}
+use Rattle.std.proofs.Common.{get_or-append-add}
+use borrow.Author.Tests.{lt-ltb, le-ltb, ltb-true, ltb-false}
+use borrow.Rule.Slice.PartMut.{mid_of, put_mid, post_of, same_len_mid}
 use Rattle.rules.specs.Bytes.{byte_at}
 use Rattle.doc_items.specs.Room.{capacity}
 use Rattle.doc_items.specs.Parts.{numbers}
 use Rattle.doc_items.specs.Writing.{ReadIs}
-use Rattle.eval_keys.specs.Texts.{by_equal, text_of, bucket_count, bucket_of}
+use Rattle.eval_keys.specs.Texts.{text_of, bucket_count, bucket_of}
 use Rattle.eval_keys.specs.Columns.{keys_at, buckets_at, links_at, Room, is_field, key_text}
 use Rattle.eval_keys.specs.Numbers.{NoneBefore, Found, absent, here, Numbered, number_of, Kept}
 use Rattle.eval_keys.specs.Finding.{first-is}
@@ -20,37 +23,53 @@ use Rattle.eval_keys.specs.Clauses.{BucketIs, FindIs, ClearIs, AddIs, NumberKeyI
 
 -- ---- zeros
 
-pub record ClearInv (from end : ℕ) (T₀ T : List ℕ) (i : ℕ) : Type 0 where
-  pub zero : (j : ℕ) → from ≤ j → j < i → numbers T j ≡ 0
-  pub kept : (j : ℕ) → (from ≤ j → j < i → ⊥) → numbers T j ≡ numbers T₀ j
-  pub len : length T ≡ length T₀
-  pub low : from ≤ i
-  pub upto : i ≤ end
+module _ (from end : ℕ) (T ys : List ℕ) (l : from ≤ end) (h : end ≤ length T) (e : ys ≡ replicate (length (mid_of from (end - from) T)) 0) where
+  part-length : length (mid_of from (end - from) T) ≡ end - from
+  part-length = length-take-le (end - from) (drop from T) (omega (arith, length-drop from T))
 
-pub clear-start : {from end : ℕ} {T : List ℕ} → from ≤ end → ClearInv from end T T from
-clear-start l = record { zero = λ j u v. absurd (omega arith); kept = λ j o. refl; len = refl; low = omega arith; upto = l }
+  zeros-length : length ys ≡ length (mid_of from (end - from) T)
+  zeros-length = ap length e ∙ length-replicate (length (mid_of from (end - from) T)) 0
 
-module _ {from end : ℕ} {T₀ T : List ℕ} {i : ℕ} (I : ClearInv from end T₀ T i) where
-  pub clear-again : end ≤ length T₀ → i < end → ClearInv from end T₀ (set T i 0) (i + 1)
-  clear-again room h =
-      let l : length T ≡ length T₀ = I.len in
-      let low : from ≤ i = I.low in
-      record {
-        zero = λ j u v. by_equal (numbers (set T i 0) j ≡ 0) j i
-            (λ e. ap (numbers (set T i 0)) e ∙ get_or-set_same T i 0 0 (omega arith))
-            (λ e. get_or-set_other T i j 0 0 (λ q. e (omega arith)) ∙ I.zero j u (omega arith));
-        kept = λ j o. get_or-set_other T i j 0 0 (λ e. o (omega arith) (omega arith)) ∙ I.kept j (λ u v. o u (omega arith));
-        len = length-set T i 0 ∙ I.len;
-        low = omega arith;
-        upto = omega arith;
-      }
+  low-length : length (take from T) ≡ from
+  low-length = length-take-le from T (omega arith)
 
-  pub clear-done : end ≤ i → ClearIs from end T₀ T
-  clear-done h =
-      let u : i ≤ end = I.upto in
-      record { zero = λ j a b. I.zero j a (omega arith); kept = λ j o. I.kept j (λ a b. o a (omega arith)); len = I.len }
+  -- a number of the part, and one behind it
+  inside : (k : ℕ) → numbers (put_mid from (end - from) T ys) (from + k) ≡ numbers (ys ++ post_of from (end - from) T) k
+  inside k =
+      ap (λ (n : ℕ). numbers (put_mid from (end - from) T ys) (n + k)) (sym low-length)
+      ∙ get_or-append-add (take from T) (ys ++ post_of from (end - from) T) k 0
 
-pub ruleset clears = (clear-start, clear-again, clear-done)
+  zero-at : (k : ℕ) → k < end - from → numbers (put_mid from (end - from) T ys) (from + k) ≡ 0
+  zero-at k u =
+      inside k ∙ get_or-append ys (post_of from (end - from) T) 0 k (omega (arith, zeros-length, part-length))
+      ∙ ap (λ (z : List ℕ). numbers z k) e
+      ∙ get_or-replicate (length (mid_of from (end - from) T)) k 0 0 (omega (arith, part-length))
+
+  behind : (m : ℕ) → numbers (put_mid from (end - from) T ys) (end + m) ≡ numbers T (end + m)
+  behind m =
+      let a : end + m ≡ from + (end - from + m) = omega arith in
+      ap (numbers (put_mid from (end - from) T ys)) a ∙ inside (end - from + m)
+      ∙ ap (λ (n : ℕ). numbers (ys ++ post_of from (end - from) T) (n + m)) (sym (zeros-length ∙ part-length))
+      ∙ get_or-append-add ys (post_of from (end - from) T) m 0
+      ∙ get_or-drop (end - from) (drop from T) m 0 ∙ get_or-drop from T (end - from + m) 0 ∙ ap (numbers T) (sym a)
+
+  pub clear-is : ClearIs from end T (put_mid from (end - from) T ys)
+  clear-is = record {
+    zero = λ j u v. let a : j ≡ from + (j - from) = omega arith in ap (numbers (put_mid from (end - from) T ys)) a ∙ zero-at (j - from) (omega arith);
+    kept = λ j o. go j o (ltb j from) refl (ltb j end) refl;
+    len = same_len_mid from (end - from) T ys zeros-length;
+  }
+    where
+      go : (j : ℕ) → (from ≤ j → j < end → ⊥) → (a : Bool) → ltb j from ≡ a → (b : Bool) → ltb j end ≡ b
+          → numbers (put_mid from (end - from) T ys) j ≡ numbers T j
+      go j o true p b q =
+          let u : j < from = ltb-true j from p in
+          get_or-append (take from T) (ys ++ post_of from (end - from) T) 0 j (omega (arith, low-length)) ∙ get_or-take from T j 0 u
+      go j o false p true q = absurd (o (ltb-false j from p) (ltb-true j end q))
+      go j o false p false q =
+          let v : end ≤ j = ltb-false j end q in
+          let a : j ≡ end + (j - end) = omega arith in
+          ap (numbers (put_mid from (end - from) T ys)) a ∙ behind (j - end) ∙ ap (numbers T) (sym a)
 
 -- ---- a new number
 

@@ -47,14 +47,10 @@ fn bucket(texts: &[u8], at: TextAt, len: TextLen) -> usize
     requires { Near at.0 len.0 }
     ensures { BucketIs texts.now at.0 len.0 result }
 {
-    let a = at.0;
-    let n = len.0;
     let mut hash = 0;
-    let mut i = 0;
-    while i < n {
-        let b = text_byte(texts, TextAt(a + i)) as usize;
+    for i in 0..len.0 {
+        let b = text_byte(texts, TextAt(at.0 + i)) as usize;
         hash = (hash * FACTOR + b) % HASHES;
-        i += 1;
     }
     (hash + hash / BUCKET_COUNT) % BUCKET_COUNT
 }
@@ -64,14 +60,8 @@ fn same_bytes(texts: &[u8], from: TextAt, at: TextAt, len: TextLen) -> bool
     requires { Near from.0 len.0 × Near at.0 len.0 }
     ensures { SameIs texts.now from.0 at.0 len.0 result }
 {
-    let a = from.0;
-    let b = at.0;
-    let n = len.0;
-    let mut i = 0;
-    while i < n {
-        if text_byte(texts, TextAt(a + i)) == text_byte(texts, TextAt(b + i)) {
-            i += 1;
-        } else {
+    for i in 0..len.0 {
+        if text_byte(texts, TextAt(from.0 + i)) != text_byte(texts, TextAt(at.0 + i)) {
             return false;
         }
     }
@@ -126,11 +116,7 @@ pub fn clear(table: &mut [u16], from: usize, end: usize)
     requires { (from ≤ end) × (end ≤ length table.old) }
     ensures { ClearIs from end table.old table.new }
 {
-    let mut i = from;
-    while i < end {
-        table[i] = 0;
-        i += 1;
-    }
+    table[from..end].fill(0);
 }
 
 // A new number: it is the newest of its bucket.
@@ -169,9 +155,7 @@ pub fn number_keys(table: &mut [u16], texts: &[u8], items: usize)
     ensures { NumberKeysIs texts.now items table.old table.new }
 {
     clear(table, BUCKETS, LINKS);
-    let mut i = 1;
-    while i <= items {
+    for i in 1..=items {
         number_key(table, texts, i);
-        i += 1;
     }
 }

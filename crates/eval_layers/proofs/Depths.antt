@@ -1,17 +1,17 @@
 -- One key deeper.
+use Rattle.std.specs.Prelude.{Some, None}
 use mathlib.Core.Path.{◌≡◌, refl, sym, ap, ◌∙◌}
 use mathlib.Core.List.{List, []}
 use Prim.Native.Nat.{ℕ, ◌+◌, ◌-◌, ◌≤◌, ◌<◌}
 use native.Mathlib.Omega.{arith}
-use Rattle.eval_nodes.specs.Model.{view_at, members_of}
+use Rattle.eval_nodes.specs.Model.{View, view_at, members_of}
 use Rattle.eval_nodes.specs.Clauses.{ViewIs}
-use Rattle.eval_nodes.specs.declared.View.{View}
+use Rattle.eval_nodes.specs.declared.Members.{Members}
 use Rattle.eval_stack.specs.Model.{entries, Work, code_at, seg}
 use Rattle.eval_stack.specs.Clauses.{CodeIs}
 use Rattle.eval_stack.specs.Pushes.{seg-more, seg-none, same_code}
-use Rattle.eval_layers.specs.Model.{Walk, push_members_c, inside_by, deeper_c}
+use Rattle.eval_layers.specs.Model.{Stuck, Walk, push_members_c, inside_by, deeper_c}
 use Rattle.eval_layers.specs.Clauses.{walked, WalkedIs, DeeperIs}
-use Rattle.eval_layers.specs.declared.Stuck.{Stuck}
 use Rattle.eval_layers.specs.declared.Walked.{Walked}
 
 -- all from base on is dropped
@@ -27,12 +27,12 @@ empties {base} {w} st h e = record {
 -- ---- one layer
 
 module _ {T R : List ℕ} {base : ℕ} {w : List ℕ} (walk : Walked) (k : ℕ) {c : ℕ} {v : View} (h : ViewIs T R c v) where
-  pub inside-other : base ≤ walk.top → walk.top ≤ entries → v ≡ View.Other
-      → WalkedIs base w w (record { top = base; stuck = Stuck.No }) (inside_by T R k (entries - base) (walked w base walk) (view_at T R c))
-  inside-other low high e = empties Stuck.No (omega arith) (ap (inside_by T R k (entries - base) (walked w base walk)) (sym h.is ∙ e))
+  pub inside-other : base ≤ walk.top → walk.top ≤ entries → v ≡ None
+      → WalkedIs base w w (record { top = base; stuck = None }) (inside_by T R k (entries - base) (walked w base walk) (view_at T R c))
+  inside-other low high e = empties None (omega arith) (ap (inside_by T R k (entries - base) (walked w base walk)) (sym h.is ∙ e))
 
-  pub inside-many : {p e : ℕ} {w' : List ℕ} {r : Walked} → v ≡ View.Object p e
-      → WalkedIs base w w' r (push_members_c T R k (entries - base) (members_of T R p e) (walked w base walk))
+  pub inside-many : {m : Members} {w' : List ℕ} {r : Walked} → v ≡ Some m
+      → WalkedIs base w w' r (push_members_c T R k (entries - base) (members_of T R m.first m.end) (walked w base walk))
       → WalkedIs base w w' r (inside_by T R k (entries - base) (walked w base walk) (view_at T R c))
   inside-many t g = record {
     is = g.is ∙ sym (ap (inside_by T R k (entries - base) (walked w base walk)) (sym h.is ∙ t));

@@ -1,19 +1,19 @@
 -- What layers come to, from the top on.
+use Rattle.std.specs.Prelude.{Some, None}
 use mathlib.Core.Path.{◌≡◌, refl, sym, ap, ◌∙◌}
 use mathlib.Core.List.{List, []}
 use Prim.Native.Nat.{ℕ, ◌+◌, ◌-◌, ◌≤◌, ◌<◌}
 use native.Mathlib.Omega.{arith}
 use lib.ListN.{length}
 use borrow.Author.Tests.{eq-eqb, ne_eqb}
-use Rattle.eval_nodes.specs.Model.{view_at}
+use Rattle.eval_nodes.specs.Model.{View, view_at}
 use Rattle.eval_nodes.specs.Clauses.{ViewIs}
-use Rattle.eval_nodes.specs.declared.View.{View}
+use Rattle.eval_nodes.specs.declared.Members.{Members}
 use Rattle.eval_stack.specs.Model.{entries, Work, code_at, seg, seg-length}
 use Rattle.eval_stack.specs.Clauses.{CodeIs, PushIs, Same}
 use Rattle.eval_stack.specs.Pushes.{seg-last, seg-none, same_code, push-grows}
-use Rattle.eval_layers.specs.Model.{of_end_c, of_other_c, gather_by, gather_c}
+use Rattle.eval_layers.specs.Model.{Stuck, of_end_c, of_other_c, gather_by, gather_c}
 use Rattle.eval_layers.specs.Clauses.{GatherIs}
-use Rattle.eval_layers.specs.declared.Stuck.{Stuck}
 use Rattle.eval_layers.specs.declared.Taken.{Taken}
 
 module _ (c : ℕ) {base top : ℕ} where
@@ -26,13 +26,13 @@ module _ (c : ℕ) {base top : ℕ} where
 pub ruleset others = (other-only, other-below)
 
 module _ {st : Stuck} (base top : ℕ) where
-  pub end-missing : {b : ℕ} → st ≡ Stuck.At b → Taken.Needs b ≡ of_end_c st base top
+  pub end-missing : {b : ℕ} → st ≡ Some b → Taken.Needs b ≡ of_end_c st base top
   end-missing e = rw e refl
 
-  pub end-nothing : st ≡ Stuck.No → base ≡ top → Taken.Nothing ≡ of_end_c st base top
+  pub end-nothing : st ≡ None → base ≡ top → Taken.Nothing ≡ of_end_c st base top
   end-nothing e f = rw (e, eq-eqb base top f) refl
 
-  pub end-merged : st ≡ Stuck.No → (base ≡ top → ⊥) → Taken.Merged top ≡ of_end_c st base top
+  pub end-merged : st ≡ None → (base ≡ top → ⊥) → Taken.Merged top ≡ of_end_c st base top
   end-merged e n = rw (e, ne_eqb base top n) refl
 
 pub ruleset ends = (end-missing, end-nothing, end-merged)
@@ -105,11 +105,11 @@ module _ {T R : List ℕ} {lo hi : ℕ} {st : Stuck} {w₀ w : List ℕ} {i top 
         ap (taken-by c) h.is ∙ ap (λ (d : ℕ). taken-by d (view_at T R d)) e
         ∙ sym (ap (λ (cs : List ℕ). gather_c T R st hi (entries - hi) cs (seg w hi (top - hi))) (seg-last w₀ lo i l)) ∙ I.is
 
-    pub gather-other : {r : Taken} → v ≡ View.Other → r ≡ of_other_c c hi top → GatherIs T R lo hi st w₀ w r
+    pub gather-other : {r : Taken} → v ≡ None → r ≡ of_other_c c hi top → GatherIs T R lo hi st w₀ w r
     gather-other {r} e f = taken (ap (taken-by c) (sym e) ∙ here) (f ∙ ap (of_other_c c hi) (sym ends_at)) refl
 
-    pub gather-more : {p e : ℕ} {w' : List ℕ} {t : ℕ} → v ≡ View.Object p e → PushIs top c w w' t → GatherInv T R lo hi st w₀ w' (i - 1) t
-    gather-more {p} {e} {w'} {t} q y =
+    pub gather-more : {m : Members} {w' : List ℕ} {t : ℕ} → v ≡ Some m → PushIs top c w w' t → GatherInv T R lo hi st w₀ w' (i - 1) t
+    gather-more {m} {w'} {t} q y =
         let u = I.upto in
         let g = push-grows I.low I.high I.work y in
         record {

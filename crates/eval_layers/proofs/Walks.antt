@@ -1,4 +1,5 @@
 -- A node, or a member with a key, above what is below it.
+use Rattle.std.specs.Prelude.{Some}
 use mathlib.Core.Path.{◌≡◌, refl, sym, ◌∙◌}
 use mathlib.Core.List.{List, []}
 use Prim.Native.Nat.{ℕ, ◌-◌, ◌≤◌}
@@ -11,9 +12,8 @@ use Rattle.eval_nodes.specs.Members.{layer-small}
 use Rattle.eval_stack.specs.Model.{entries, Work}
 use Rattle.eval_stack.specs.Clauses.{PushIs}
 use Rattle.eval_stack.specs.Pushes.{seg-none, push-grows}
-use Rattle.eval_layers.specs.Model.{Walk, push_layer_c, push_named_c}
+use Rattle.eval_layers.specs.Model.{Stuck, Walk, push_layer_c, push_named_c}
 use Rattle.eval_layers.specs.Clauses.{walked, WalkedIs}
-use Rattle.eval_layers.specs.declared.Stuck.{Stuck}
 use Rattle.eval_layers.specs.declared.Walked.{Walked}
 
 -- nothing changes
@@ -43,9 +43,9 @@ module _ {T : List ℕ} {base : ℕ} {w : List ℕ} (walk : Walked) {c : ℕ} {v
   lay-undefined e = stays low high (rw (push_layer_c, sym h.is ∙ e) refl)
 
   pub lay-missing : {b : ℕ} → v ≡ Answered.Missing b
-      → WalkedIs base w w (record { top = base; stuck = Stuck.At b }) (push_layer_c T (entries - base) c (walked w base walk))
+      → WalkedIs base w w (record { top = base; stuck = Some b }) (push_layer_c T (entries - base) c (walked w base walk))
   unfolding push_layer_c
-  lay-missing {b} e = empties (Stuck.At b) (omega arith) (rw (push_layer_c, sym h.is ∙ e) refl)
+  lay-missing {b} e = empties (Some b) (omega arith) (rw (push_layer_c, sym h.is ∙ e) refl)
 
 pub ruleset lays = (layer-small, lay-plain, lay-undefined, lay-missing)
 

@@ -2,8 +2,7 @@
 use Rattle.std.specs.Prelude.{◌≡◌, ℕ, ◌+◌, ◌-◌, ◌≤◌, List, [], length}
 use Rattle.eval_stack.specs.Model.{entries, seg}
 use Rattle.eval_stack.specs.Clauses.{Same}
-use Rattle.eval_layers.specs.Model.{Walk, deeper_c, gather_c}
-use Rattle.eval_layers.specs.declared.Stuck.{Stuck}
+use Rattle.eval_layers.specs.Model.{Stuck, Walk, deeper_c, gather_c}
 use Rattle.eval_layers.specs.declared.Walked.{Walked}
 use Rattle.eval_layers.specs.declared.Taken.{Taken}
 

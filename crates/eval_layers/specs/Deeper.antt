@@ -1,7 +1,7 @@
 -- Numbers that show layers give numbers that show the layers one key deeper.
 use Rattle.std.proofs.Math.Path.{◌≡◌, refl}
 use Rattle.std.proofs.Common.{◌∙◌, arith}
-use Rattle.std.specs.Prelude.{ℕ, suc, ◌+◌, ◌≤◌, Bool, cond, length}
+use Rattle.std.specs.Prelude.{ℕ, suc, ◌+◌, ◌≤◌, Bool, cond, length, Some, None}
 use Rattle.std.proofs.Math.Bool.{true, false}
 use mathlib.Core.List.{List, [], ◌∷◌}
 use Rattle.std.proofs.Math.Option.{Option, none, some}
@@ -15,15 +15,13 @@ use Rattle.rules.specs.NamedValues.{member_of, DistinctMembers}
 use Rattle.rules.specs.Weights.{weight_of, weight_of_fields, weight_of_members, weight_of_value, weight_of_layer, weigh}
 use Rattle.theory.specs.Layout.{same-eq}
 use Rattle.theory.specs.Room.{node-weighs, value-weighs, length-weighs, node_pushed, deeper-weighs}
-use Rattle.eval_nodes.specs.Model.{view_at, members_of}
-use Rattle.eval_nodes.specs.declared.View.{View}
+use Rattle.eval_nodes.specs.Model.{View, view_at, members_of}
 use Rattle.eval_memory.specs.Keys.{Means}
 use Rattle.eval_memory.specs.Finished.{Memory}
 use Rattle.eval_memory.specs.Tables.{Tables, KeyOf, Match, match-length, key-test}
 use Rattle.eval_memory.specs.Views.{FieldsListed, MembersListed, Viewed, viewed}
-use Rattle.eval_layers.specs.Model.{Walk, push_layer_c, push_named_c, push_members_c, inside_by, deeper_c}
+use Rattle.eval_layers.specs.Model.{Stuck, Walk, push_layer_c, push_named_c, push_members_c, inside_by, deeper_c}
 use Rattle.eval_layers.specs.Shows.{Ended, WalkShows, lay-layer, lay-node}
-use Rattle.eval_layers.specs.declared.Stuck.{Stuck}
 
 module _ (M : Memory) (known : ℕ → Option Answer) (tables : Tables M known) where
   abbrev T : List ℕ
@@ -96,20 +94,20 @@ module _ (M : Memory) (known : ℕ → Option Answer) (tables : Tables M known) 
     inside-shows : (l : Layer) (w : Walk) (s : Settled) (v : View) → Viewed M v l → WalkShows M w s
         → weigh known s.0 + weight_of_layer known l ≤ suc r → WalkShows M (inside_by T R k r w v) (inside_in known t l s)
     unfolding inside_in weight_of weight_of_value push_members_c members_of
-    inside-shows (settled (scalar x)) w s View.Other y m l = (tt, tt)
-    inside-shows (settled (scalar x)) w s (View.Object p e) y m l = absurd y
-    inside-shows (settled (array_of vs)) w s View.Other y m l = (tt, tt)
-    inside-shows (settled (array_of vs)) w s (View.Object p e) y m l = absurd y
-    inside-shows (settled (object_of ms)) w s View.Other y m l = absurd y
-    inside-shows (settled (object_of ms)) w s (View.Object p e) y m l = pick-members (members_of T R p e) ms w s y.0 y.1 m (omega arith)
-    inside-shows (written (simple x)) w s View.Other y m l = (tt, tt)
-    inside-shows (written (simple x)) w s (View.Object p e) y m l = absurd y
-    inside-shows (written (array es)) w s View.Other y m l = (tt, tt)
-    inside-shows (written (array es)) w s (View.Object p e) y m l = absurd y
-    inside-shows (written (object fs)) w s View.Other y m l = absurd y
-    inside-shows (written (object fs)) w s (View.Object p e) y m l = pick-fields (members_of T R p e) fs w s y m (omega arith)
-    inside-shows (written (unresolved b ps)) w s View.Other y m l = absurd y
-    inside-shows (written (unresolved b ps)) w s (View.Object p e) y m l = absurd y
+    inside-shows (settled (scalar x)) w s None y m l = (tt, tt)
+    inside-shows (settled (scalar x)) w s (Some v) y m l = absurd y
+    inside-shows (settled (array_of vs)) w s None y m l = (tt, tt)
+    inside-shows (settled (array_of vs)) w s (Some v) y m l = absurd y
+    inside-shows (settled (object_of ms)) w s None y m l = absurd y
+    inside-shows (settled (object_of ms)) w s (Some v) y m l = pick-members (members_of T R v.first v.end) ms w s y.0 y.1 m (omega arith)
+    inside-shows (written (simple x)) w s None y m l = (tt, tt)
+    inside-shows (written (simple x)) w s (Some v) y m l = absurd y
+    inside-shows (written (array es)) w s None y m l = (tt, tt)
+    inside-shows (written (array es)) w s (Some v) y m l = absurd y
+    inside-shows (written (object fs)) w s None y m l = absurd y
+    inside-shows (written (object fs)) w s (Some v) y m l = pick-fields (members_of T R v.first v.end) fs w s y m (omega arith)
+    inside-shows (written (unresolved b ps)) w s None y m l = absurd y
+    inside-shows (written (unresolved b ps)) w s (Some v) y m l = absurd y
 
     -- numbers that show layers give numbers that show the layers one key deeper
     pub deeper-shows : (cs : List ℕ) (ls : List Layer) (st : Stuck) (st' : Ending) → Match M cs ls → Ended st st'

@@ -1,5 +1,5 @@
 -- Numbers that show layers: what they come to is what the rules say of the layers, and the objects that count stand on the stack.
-use Rattle.std.specs.Prelude.{◌≡◌, refl, ℕ, ◌+◌, ◌-◌, ◌≤◌, ◌<◌}
+use Rattle.std.specs.Prelude.{◌≡◌, refl, ℕ, ◌+◌, ◌-◌, ◌≤◌, ◌<◌, Some, None}
 use Rattle.std.proofs.Common.{sym, ap, ◌∙◌, arith, eq-eqb, ne_eqb}
 use Rattle.std.proofs.Math.Path.{subst}
 use mathlib.Core.List.{List, [], ◌∷◌, reverse}
@@ -11,16 +11,14 @@ use Rattle.rules.specs.Tree.{simple, array, object, unresolved}
 use Rattle.rules.specs.Values.{scalar, array_of, object_of, Answer}
 use Rattle.rules.specs.Layers.{Layer, written, settled, Counted, nothing, one, merged, of_objects, of_other}
 use Rattle.rules.specs.Settled.{Ending, no, at, Given, end_of, gather_in}
-use Rattle.eval_nodes.specs.Model.{view_at}
-use Rattle.eval_nodes.specs.declared.View.{View}
+use Rattle.eval_nodes.specs.Model.{View, view_at}
 use Rattle.eval_stack.specs.Model.{entries, seg}
 use Rattle.eval_memory.specs.Finished.{Memory, Stored}
 use Rattle.eval_memory.specs.Tables.{Shows, Match, match-length, match-reverse}
 use Rattle.eval_memory.specs.Views.{Viewed, viewed}
-use Rattle.eval_layers.specs.Model.{of_end_c, of_other_c, gather_by, gather_c}
+use Rattle.eval_layers.specs.Model.{Stuck, of_end_c, of_other_c, gather_by, gather_c}
 use Rattle.eval_layers.specs.Clauses.{TakenIs, GatherIs}
 use Rattle.eval_layers.specs.Shows.{Ended, push-room}
-use Rattle.eval_layers.specs.declared.Stuck.{Stuck}
 use Rattle.eval_layers.specs.declared.Taken.{Taken}
 
 module _ (M : Memory) where
@@ -50,7 +48,7 @@ module _ (M : Memory) where
     pushed-length rs m = sym (length-reverse acc) ∙ match-length M (reverse acc) rs m
 
     -- where nothing is below the objects
-    objects-shown : (rs : List Layer) → Match M (reverse acc) rs → GatherShows base (of_end_c Stuck.No base (base + length acc), acc) (value (of_objects rs))
+    objects-shown : (rs : List Layer) → Match M (reverse acc) rs → GatherShows base (of_end_c None base (base + length acc), acc) (value (of_objects rs))
     unfolding of_objects
     objects-shown [] m = let n = pushed-length [] m in rw (eq-eqb base (base + length acc) (omega arith)) nothing-shows
     objects-shown (o ∷ rs) m =
@@ -73,29 +71,29 @@ module _ (M : Memory) where
       end-shown : (known : ℕ → Option Answer) (st : Stuck) (st' : Ending) → Ended st st'
           → GatherShows base (of_end_c st base (base + length acc), acc) (end_of known st' os)
       unfolding of_objects
-      end-shown known Stuck.No no e = objects-shown (reverse os) (match-reverse M acc os m)
-      end-shown known Stuck.No (at b) e = absurd e
-      end-shown known (Stuck.At a) no e = absurd e
-      end-shown known (Stuck.At a) (at b) e = needs-shows e
+      end-shown known None no e = objects-shown (reverse os) (match-reverse M acc os m)
+      end-shown known None (at b) e = absurd e
+      end-shown known (Some a) no e = absurd e
+      end-shown known (Some a) (at b) e = needs-shows e
 
       -- one layer more
       layer-taken : (known : ℕ → Option Answer) (r c : ℕ) (l : Layer) (v : View) (more : List ℕ → Taken × List ℕ) (ls : List Layer) (st : Ending)
           → Viewed M v l → Shows M c l → length acc < r → GatherShows base (more (c ∷ acc)) (gather_in known ls st (l ∷ os))
           → GatherShows base (gather_by M.table M.records base r acc more c v) (gather_in known (l ∷ ls) st os)
       unfolding gather_in
-      layer-taken known r c (settled (scalar x)) View.Other more ls st y s f ih = over-shown c (settled (scalar x)) s
-      layer-taken known r c (settled (scalar x)) (View.Object p q) more ls st y s f ih = absurd y
-      layer-taken known r c (settled (array_of vs)) View.Other more ls st y s f ih = over-shown c (settled (array_of vs)) s
-      layer-taken known r c (settled (array_of vs)) (View.Object p q) more ls st y s f ih = absurd y
-      layer-taken known r c (settled (object_of ms)) View.Other more ls st y s f ih = absurd y
-      layer-taken known r c (settled (object_of ms)) (View.Object p q) more ls st y s f ih =
+      layer-taken known r c (settled (scalar x)) None more ls st y s f ih = over-shown c (settled (scalar x)) s
+      layer-taken known r c (settled (scalar x)) (Some v) more ls st y s f ih = absurd y
+      layer-taken known r c (settled (array_of vs)) None more ls st y s f ih = over-shown c (settled (array_of vs)) s
+      layer-taken known r c (settled (array_of vs)) (Some v) more ls st y s f ih = absurd y
+      layer-taken known r c (settled (object_of ms)) None more ls st y s f ih = absurd y
+      layer-taken known r c (settled (object_of ms)) (Some v) more ls st y s f ih =
           subst (λ (xs : List ℕ). GatherShows base (more xs) (gather_in known ls st (settled (object_of ms) ∷ os))) (sym (push-room M c r acc f)) ih
-      layer-taken known r c (written (simple x)) View.Other more ls st y s f ih = over-shown c (written (simple x)) s
-      layer-taken known r c (written (simple x)) (View.Object p q) more ls st y s f ih = absurd y
-      layer-taken known r c (written (array es)) View.Other more ls st y s f ih = over-shown c (written (array es)) s
-      layer-taken known r c (written (array es)) (View.Object p q) more ls st y s f ih = absurd y
-      layer-taken known r c (written (object fs)) View.Other more ls st y s f ih = absurd y
-      layer-taken known r c (written (object fs)) (View.Object p q) more ls st y s f ih =
+      layer-taken known r c (written (simple x)) None more ls st y s f ih = over-shown c (written (simple x)) s
+      layer-taken known r c (written (simple x)) (Some v) more ls st y s f ih = absurd y
+      layer-taken known r c (written (array es)) None more ls st y s f ih = over-shown c (written (array es)) s
+      layer-taken known r c (written (array es)) (Some v) more ls st y s f ih = absurd y
+      layer-taken known r c (written (object fs)) None more ls st y s f ih = absurd y
+      layer-taken known r c (written (object fs)) (Some v) more ls st y s f ih =
           subst (λ (xs : List ℕ). GatherShows base (more xs) (gather_in known ls st (written (object fs) ∷ os))) (sym (push-room M c r acc f)) ih
       layer-taken known r c (written (unresolved b ps)) v more ls st y s f ih = absurd s
 

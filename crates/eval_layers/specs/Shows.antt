@@ -1,5 +1,5 @@
 -- A node above numbers that show layers: they show the layers with the node on top.
-use Rattle.std.specs.Prelude.{◌≡◌, ℕ, ◌+◌, ◌-◌, ◌<◌, length, get_or}
+use Rattle.std.specs.Prelude.{◌≡◌, ℕ, ◌+◌, ◌-◌, ◌<◌, length, get_or, Some, None}
 use Rattle.std.proofs.Math.Path.{refl, ap}
 use Rattle.std.proofs.Common.{◌∙◌}
 use mathlib.Core.List.{List, ◌∷◌}
@@ -17,15 +17,14 @@ use Rattle.eval_nodes.specs.Model.{answered_at}
 use Rattle.eval_stack.specs.Model.{push_c}
 use Rattle.eval_memory.specs.Finished.{Memory}
 use Rattle.eval_memory.specs.Tables.{WrittenAt, AnswerAt, Tables, Shows, Match, layer-shown, unresolved-shown}
-use Rattle.eval_layers.specs.Model.{Walk, push_layer_by, push_layer_c}
-use Rattle.eval_layers.specs.declared.Stuck.{Stuck}
+use Rattle.eval_layers.specs.Model.{Stuck, Walk, push_layer_by, push_layer_c}
 
 -- the two ends of a walk
 abbrev pub Ended : Stuck → Ending → Type 0
-Ended Stuck.No no = Unit {0}
-Ended Stuck.No (at b) = ⊥
-Ended (Stuck.At a) no = ⊥
-Ended (Stuck.At a) (at b) = a ≡ b
+Ended None no = Unit {0}
+Ended None (at b) = ⊥
+Ended (Some a) no = ⊥
+Ended (Some a) (at b) = a ≡ b
 
 module _ (M : Memory) where
   abbrev pub WalkShows : Walk → Settled → Type 0

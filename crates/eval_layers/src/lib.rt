@@ -13,32 +13,23 @@ ghost use Rattle.eval_stack.specs.Clauses.{Stack, Segment};
 ghost use Rattle.eval_layers.specs.Model.{push_layer_c, push_named_c, push_members_c, of_other_c, of_end_c, inside_by};
 ghost use Rattle.eval_layers.specs.Clauses.{walked, WalkedIs, GatherIs, DeeperIs};
 
+use eval_nodes::Member;
 use eval_nodes::answer::Answered;
-use eval_nodes::{Member, View};
 use eval_stack::{code_at, push};
 
-/// Where a walk ended: at the end of the layers, or at an unresolved value that has no answer yet.
-#[derive(Clone, Copy)]
-pub enum Stuck {
-    /// All layers were walked.
-    No,
-    /// The answer of this question is missing.
-    At(usize),
-}
-
-/// Layers on the stack: how far they go, and how their walk ended.
+/// Layers on the stack: how far they go, and the question whose missing answer ended their walk, if one did.
 #[derive(Clone, Copy)]
 pub struct Walked {
     pub top: usize,
-    pub stuck: Stuck,
+    pub stuck: Option<usize>,
 }
 
-/// Layers between two places of the stack, and how their walk ended.
+/// Layers between two places of the stack, and the question whose missing answer ended their walk, if one did.
 #[derive(Clone, Copy)]
 pub struct Part {
     pub lo: usize,
     pub hi: usize,
-    pub stuck: Stuck,
+    pub stuck: Option<usize>,
 }
 
 /// What layers come to.
@@ -69,13 +60,12 @@ pub fn push_layer(
     match eval_nodes::layer_of(table, layer) {
         Answered::Layer(d) => {
             let top = push(work, walk.top, d);
-            let stuck = walk.stuck;
-            Walked { top, stuck }
+            Walked { top, ..walk }
         }
         Answered::Undefined => walk,
         Answered::Missing(b) => Walked {
             top: base,
-            stuck: Stuck::At(b),
+            stuck: Some(b),
         },
     }
 }
@@ -144,12 +134,12 @@ pub fn of_other(layer: usize, base: usize, top: usize) -> Taken
 }
 
 /// What the end of the layers comes to below the objects from base to top.
-pub fn of_end(stuck: Stuck, base: usize, top: usize) -> Taken
+pub fn of_end(stuck: Option<usize>, base: usize, top: usize) -> Taken
     ensures { result ≡ of_end_c stuck base top }
 {
     match stuck {
-        Stuck::At(b) => Taken::Needs(b),
-        Stuck::No => {
+        Some(b) => Taken::Needs(b),
+        None => {
             if base == top {
                 return Taken::Nothing;
             }
@@ -164,24 +154,20 @@ pub fn gather(table: &[u16], records: &[u8], work: &mut [u16], part: Part) -> Ta
     ensures { GatherIs table.now records.now part.lo part.hi part.stuck work.old
         work.new result }
 {
-    let lo = part.lo;
     let hi = part.hi;
-    let stuck = part.stuck;
-    let mut i = hi;
     let mut top = hi;
-    while lo < i {
-        let layer = code_at(work, i - 1);
+    for i in (part.lo..hi).rev() {
+        let layer = code_at(work, i);
         match eval_nodes::view_of(table, records, layer) {
-            View::Other => {
+            None => {
                 return of_other(layer, hi, top);
             }
-            View::Object { first, end } => {
+            Some(members) => {
                 top = push(work, top, layer);
-                i -= 1;
             }
         }
     }
-    of_end(stuck, hi, top)
+    of_end(part.stuck, hi, top)
 }
 
 // One layer, above what those below it gave.
@@ -199,13 +185,20 @@ fn inside(
         (entries - base) (walked work.old base walk) (view_at table.now records.now layer)) }
 {
     match eval_nodes::view_of(table, records, layer) {
-        View::Other => Walked {
+        None => Walked {
             top: base,
-            stuck: Stuck::No,
+            stuck: None,
         },
-        View::Object { first, end } => {
-            push_members_named(table, records, work, base, walk, key, first, end)
-        }
+        Some(members) => push_members_named(
+            table,
+            records,
+            work,
+            base,
+            walk,
+            key,
+            members.first,
+            members.end,
+        ),
     }
 }
 
@@ -222,14 +215,13 @@ pub fn deeper(
     ensures { DeeperIs table.now records.now part.lo part.hi part.stuck base key
         work.old work.new result }
 {
-    let hi = part.hi;
-    let stuck = part.stuck;
-    let mut i = part.lo;
-    let mut walk = Walked { top: base, stuck };
-    while i < hi {
+    let mut walk = Walked {
+        top: base,
+        stuck: part.stuck,
+    };
+    for i in part.lo..part.hi {
         let layer = code_at(work, i);
         walk = inside(table, records, work, base, walk, key, layer);
-        i += 1;
     }
     walk
 }

@@ -67,12 +67,10 @@ pub fn root_field_around(table: &[u16], key: usize, item: usize) -> usize
 fn has_key(keys: &[u16], count: usize, key: usize) -> bool
     ensures { HasKeyIs keys.now count key result }
 {
-    let mut element = 0;
-    while element < count {
+    for element in 0..count {
         if number_at(keys, element) == key {
             return true;
         }
-        element += 1;
     }
     false
 }
@@ -84,8 +82,7 @@ fn descend(table: &[u16], keys: &[u16], count: usize, item: usize, field: usize)
     ensures { LooksBackIs table.now keys.now count item result }
 {
     let mut literal = field;
-    let mut i = 1;
-    while i < count {
+    for i in 1..count {
         let kind = number_at(table, WIDTH * literal);
         if kind != OBJECT {
             return 0;
@@ -96,12 +93,10 @@ fn descend(table: &[u16], keys: &[u16], count: usize, item: usize, field: usize)
         if key != next {
             return 0;
         }
-        let own = i + 1;
         if inner == item {
-            return own;
+            return i + 1;
         }
         literal = inner;
-        i = own;
     }
     0
 }

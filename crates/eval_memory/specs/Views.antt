@@ -1,5 +1,5 @@
 -- The members of an object that a number shows: by their numbers, each with its key's number and text.
-use Rattle.std.specs.Prelude.{◌≡◌, Bool, false, ltb, leb}
+use Rattle.std.specs.Prelude.{◌≡◌, Bool, false, ltb, leb, Some, None}
 use Rattle.std.proofs.Math.Path.{refl, ap, subst}
 use Rattle.std.proofs.Common.{◌∙◌}
 use Prim.Native.Nat.{ℕ, zero, suc, ◌+◌, ◌*◌, ◌-◌, ◌%◌, ◌≤◌, ◌<◌}
@@ -23,8 +23,7 @@ use Rattle.doc_items.specs.Room.{capacity}
 use Rattle.eval_keys.specs.Columns.{keys_at, is_field}
 use Rattle.eval_keys.specs.Documents.{text-is}
 use Rattle.sheet_forms.specs.Model.{end_c}
-use Rattle.eval_nodes.specs.Model.{item_view, record_view, view_at, item_member, record_member, member_at, key_number, record_key, key_at, members_n, members_of}
-use Rattle.eval_nodes.specs.declared.View.{View}
+use Rattle.eval_nodes.specs.Model.{View, span, item_view, record_view, view_at, item_member, record_member, member_at, key_number, record_key, key_at, members_n, members_of}
 use Rattle.eval_nodes.specs.declared.Member.{Member}
 use Rattle.eval_memory.specs.Keys.{KeyNumber, field-number, field-name}
 use Rattle.eval_memory.specs.Finished.{Memory, Stored, SettledAt, MembersAt, settled-ends, first_member, scalar-first, array-first, object-stands}
@@ -234,23 +233,23 @@ module _ (M : Memory) where
   -- ---- an object, or any other layer
 
   module _ (c : ℕ) (l : c < capacity) where
-    item-object : get_or T (8 * c) 0 % 16 ≡ 7 → view_at T R c ≡ View.Object (c + 1) (c + get_or T (8 * c + 1) 0)
+    item-object : get_or T (8 * c) 0 % 16 ≡ 7 → view_at T R c ≡ Some (span (c + 1) (c + get_or T (8 * c + 1) 0))
     unfolding view_at item_view
     item-object k = rw (view_at, lt-ltb c capacity l, item_view, eq-eqb (get_or T (8 * c) 0 % 16) 7 k) refl
 
-    item-other : (get_or T (8 * c) 0 % 16 ≡ 7 → ⊥) → view_at T R c ≡ View.Other
+    item-other : (get_or T (8 * c) 0 % 16 ≡ 7 → ⊥) → view_at T R c ≡ None
     unfolding view_at item_view
     item-other k = rw (view_at, lt-ltb c capacity l, item_view, ne_eqb (get_or T (8 * c) 0 % 16) 7 k) refl
 
   module _ (c o : ℕ) (h : c ≡ capacity + o) (l : o ≤ max_room) where
-    record-other : (get_or R o 0 ≡ 7 → ⊥) → view_at T R c ≡ View.Other
+    record-other : (get_or R o 0 ≡ 7 → ⊥) → view_at T R c ≡ None
     unfolding view_at record_view
     record-other k =
         let z : c - capacity ≡ o = omega arith in
-        rw (view_at, le-ltb c capacity (omega arith), z, le-leb o max_room l, record_view, ne_eqb (get_or R o 0) 7 k) (refl {a = View.Other})
+        rw (view_at, le-ltb c capacity (omega arith), z, le-leb o max_room l, record_view, ne_eqb (get_or R o 0) 7 k) (refl {A = View} {a = None})
 
     record-object : (e : ℕ) → get_or R o 0 ≡ 7 → end_c R o ≡ e
-        → view_at T R c ≡ View.Object (capacity + (o + 3)) (capacity + e)
+        → view_at T R c ≡ Some (span (capacity + (o + 3)) (capacity + e))
     unfolding view_at record_view
     record-object e k f =
         let z : c - capacity ≡ o = omega arith in
@@ -258,20 +257,20 @@ module _ (M : Memory) where
 
   -- what an item or a record is, by the layer that it shows
   abbrev pub Viewed : View → Layer → Type 0
-  Viewed View.Other (settled (scalar x)) = Unit {0}
-  Viewed View.Other (settled (array_of vs)) = Unit {0}
-  Viewed View.Other (settled (object_of ms)) = ⊥
-  Viewed View.Other (written (simple x)) = Unit {0}
-  Viewed View.Other (written (array es)) = Unit {0}
-  Viewed View.Other (written (object fs)) = ⊥
-  Viewed View.Other (written (unresolved b ps)) = ⊥
-  Viewed (View.Object p e) (settled (scalar x)) = ⊥
-  Viewed (View.Object p e) (settled (array_of vs)) = ⊥
-  Viewed (View.Object p e) (settled (object_of ms)) = MembersListed (members_of T R p e) ms × DistinctMembers ms
-  Viewed (View.Object p e) (written (simple x)) = ⊥
-  Viewed (View.Object p e) (written (array es)) = ⊥
-  Viewed (View.Object p e) (written (object fs)) = FieldsListed (members_of T R p e) fs
-  Viewed (View.Object p e) (written (unresolved b ps)) = ⊥
+  Viewed None (settled (scalar x)) = Unit {0}
+  Viewed None (settled (array_of vs)) = Unit {0}
+  Viewed None (settled (object_of ms)) = ⊥
+  Viewed None (written (simple x)) = Unit {0}
+  Viewed None (written (array es)) = Unit {0}
+  Viewed None (written (object fs)) = ⊥
+  Viewed None (written (unresolved b ps)) = ⊥
+  Viewed (Some m) (settled (scalar x)) = ⊥
+  Viewed (Some m) (settled (array_of vs)) = ⊥
+  Viewed (Some m) (settled (object_of ms)) = MembersListed (members_of T R m.first m.end) ms × DistinctMembers ms
+  Viewed (Some m) (written (simple x)) = ⊥
+  Viewed (Some m) (written (array es)) = ⊥
+  Viewed (Some m) (written (object fs)) = FieldsListed (members_of T R m.first m.end) fs
+  Viewed (Some m) (written (unresolved b ps)) = ⊥
 
   module _ (S : Stored M) where
     -- the members of a finished object

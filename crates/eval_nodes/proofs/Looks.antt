@@ -1,4 +1,5 @@
 -- One law for each answer of the functions that look at the tables.
+use Rattle.std.specs.Prelude.{Some, None}
 use mathlib.Core.Path.{◌≡◌, refl, sym, ap, ◌∙◌}
 use mathlib.Core.List.{List}
 use Prim.Native.Nat.{ℕ, ◌+◌, ◌*◌, ◌-◌, ◌%◌, ◌≤◌, ◌<◌}
@@ -8,11 +9,10 @@ use borrow.Author.Tests.{lt-ltb, le-ltb, le-leb, lt-leb, eq-eqb, ne_eqb}
 use Rattle.sheet_forms.specs.Clauses.{EndIs}
 use Rattle.doc_items.specs.Room.{capacity, answers_at}
 use Rattle.doc_items.specs.Writing.{ReadIs}
-use Rattle.eval_nodes.specs.Model.{answer_bound, answer_at, answered_at, item_view, record_view, view_at, item_member, record_member, member_at}
+use Rattle.eval_nodes.specs.Model.{View, span, answer_bound, answer_at, answered_at, item_view, record_view, view_at, item_member, record_member, member_at}
 use Rattle.eval_nodes.specs.Clauses.{AnswerIs, AnsweredIs, ViewIs, ItemViewIs, RecordViewIs, ItemMemberIs, RecordMemberIs, MemberIs}
 use Rattle.eval_nodes.specs.Answer.Model.{answered}
 use Rattle.eval_nodes.specs.declared.answer.Answered.{Answered}
-use Rattle.eval_nodes.specs.declared.View.{View}
 use Rattle.eval_nodes.specs.declared.Member.{Member}
 
 -- ---- a node as a layer
@@ -49,22 +49,22 @@ pub ruleset showns = (shown-record, shown-plain, shown-unresolved)
 -- ---- objects
 
 module _ {T : List ℕ} {c k : ℕ} (x : ReadIs T (8 * c) k) where
-  pub item-object : {z : ℕ} → k % 16 ≡ 7 → ReadIs T (8 * c + 1) z → ItemViewIs T c (View.Object (c + 1) (c + z))
+  pub item-object : {z : ℕ} → k % 16 ≡ 7 → ReadIs T (8 * c + 1) z → ItemViewIs T c (Some (span (c + 1) (c + z)))
   unfolding item_view
   item-object e y = record { is = rw (eq-eqb (get_or T (8 * c) 0 % 16) 7 (ap (λ (n : ℕ). n % 16) (sym x.is) ∙ e), y.is, item_view) refl }
 
-  pub item-other : (k % 16 ≡ 7 → ⊥) → ItemViewIs T c View.Other
+  pub item-other : (k % 16 ≡ 7 → ⊥) → ItemViewIs T c None
   unfolding item_view
   item-other i = record { is = rw (ne_eqb (get_or T (8 * c) 0 % 16) 7 (λ q. i (ap (λ (n : ℕ). n % 16) x.is ∙ q)), item_view) refl }
 
 pub ruleset item-views = (item-object, item-other)
 
 module _ {R : List ℕ} {o b : ℕ} (x : b ≡ get_or R o 0) where
-  pub record-other : (b ≡ 7 → ⊥) → RecordViewIs R o View.Other
+  pub record-other : (b ≡ 7 → ⊥) → RecordViewIs R o None
   unfolding record_view
   record-other i = record { is = rw (ne_eqb (get_or R o 0) 7 (λ q. i (x ∙ q)), record_view) refl }
 
-  pub record-object : {e : ℕ} → b ≡ 7 → EndIs R o e → RecordViewIs R o (View.Object (capacity + (o + 3)) (capacity + e))
+  pub record-object : {e : ℕ} → b ≡ 7 → EndIs R o e → RecordViewIs R o (Some (span (capacity + (o + 3)) (capacity + e)))
   unfolding record_view
   record-object q y = record { is = rw (eq-eqb (get_or R o 0) 7 (sym x ∙ q), y.is, record_view) refl }
 
@@ -79,7 +79,7 @@ module _ {T R : List ℕ} {c : ℕ} where
   unfolding view_at
   view-record h l x = record { is = x.is ∙ rw (le-ltb c capacity h, le-leb (c - capacity) 32768 l, view_at) refl }
 
-  pub view-past : capacity ≤ c → 32768 < c - capacity → ViewIs T R c View.Other
+  pub view-past : capacity ≤ c → 32768 < c - capacity → ViewIs T R c None
   unfolding view_at
   view-past h l = record { is = rw (le-ltb c capacity h, lt-leb (c - capacity) 32768 l, view_at) refl }
 

@@ -2,9 +2,8 @@
 use Rattle.std.specs.Prelude.{◌≡◌, ℕ, ◌≤◌, ◌<◌, List, length}
 use Rattle.rules.specs.Sizes.{max_room}
 use Rattle.doc_items.specs.Room.{capacity, number_bound}
-use Rattle.eval_nodes.specs.Model.{answer_at, answered_at, item_view, record_view, view_at, item_member, record_member, member_at, key_number, record_key, key_at}
+use Rattle.eval_nodes.specs.Model.{View, answer_at, answered_at, item_view, record_view, view_at, item_member, record_member, member_at, key_number, record_key, key_at}
 use Rattle.eval_nodes.specs.declared.answer.Answered.{Answered}
-use Rattle.eval_nodes.specs.declared.View.{View}
 use Rattle.eval_nodes.specs.declared.Member.{Member}
 
 -- the records of finished values within their room

@@ -1,7 +1,8 @@
 -- What a job's tables show. A layer is a number: an item of the document is its index, a finished value is the offset of its record and
 -- the capacity more. The table T has the items, the index of the unresolved values, behind it their answers and the numbers of the keys; the
 -- records R are those of finished values, as kept.
-use Rattle.std.specs.Prelude.{ℕ, zero, suc, ◌+◌, ◌*◌, ◌-◌, ◌%◌, cond, List, [], ◌∷◌, ltb, leb, eqb, get_or}
+use Rattle.std.specs.Prelude.{ℕ, zero, suc, ◌+◌, ◌*◌, ◌-◌, ◌%◌, cond, List, [], ◌∷◌, ltb, leb, eqb, get_or, Some, None}
+use Rattle.std.specs.declared.option.Option.{Option as Maybe}
 use Rattle.rules.specs.Sizes.{max_room}
 use Rattle.rules.specs.Sheet.{pair_at}
 use Rattle.doc_items.specs.Room.{capacity, answers_at}
@@ -9,7 +10,7 @@ use Rattle.sheet_forms.specs.Model.{end_c}
 use Rattle.eval_keys.specs.Columns.{keys_at}
 use Rattle.eval_nodes.specs.Answer.Model.{answered}
 use Rattle.eval_nodes.specs.declared.answer.Answered.{Answered}
-use Rattle.eval_nodes.specs.declared.View.{View}
+use Rattle.eval_nodes.specs.declared.Members.{Members}
 use Rattle.eval_nodes.specs.declared.Member.{Member}
 
 -- ---- an unresolved value is its answer
@@ -29,18 +30,25 @@ answered_at T c =
 
 -- ---- an object and its members
 
+-- an object's members, or none of any other layer
+abbrev pub View : Type 0
+View = Maybe Members
+
+abbrev pub span : ℕ → ℕ → Members
+span first end = record { first = first; end = end }
+
 -- an object that is a member or a piece
 unfoldable pub item_view : List ℕ → ℕ → View
-item_view T c = cond (eqb (get_or T (8 * c) 0 % 16) 7) (View.Object (c + 1) (c + get_or T (8 * c + 1) 0)) View.Other
+item_view T c = cond (eqb (get_or T (8 * c) 0 % 16) 7) (Some (span (c + 1) (c + get_or T (8 * c + 1) 0))) None
 
 -- a finished one, whose record says where it ends
 unfoldable pub record_view : List ℕ → ℕ → View
 unfolding end_c
-record_view R o = cond (eqb (get_or R o 0) 7) (View.Object (capacity + (o + 3)) (capacity + end_c R o)) View.Other
+record_view R o = cond (eqb (get_or R o 0) 7) (Some (span (capacity + (o + 3)) (capacity + end_c R o))) None
 
 unfoldable pub view_at : List ℕ → List ℕ → ℕ → View
 unfolding item_view record_view
-view_at T R c = cond (ltb c capacity) (item_view T c) (cond (leb (c - capacity) max_room) (record_view R (c - capacity)) View.Other)
+view_at T R c = cond (ltb c capacity) (item_view T c) (cond (leb (c - capacity) max_room) (record_view R (c - capacity)) None)
 
 -- pieces that only part an object's members are passed over
 unfoldable pub item_member : List ℕ → ℕ → Member

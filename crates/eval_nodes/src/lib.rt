@@ -18,13 +18,11 @@ use doc_items::{COLUMN_NUMBER, COLUMN_SIZE, WIDTH};
 use sheet_forms::{HEAD, WORD, kind_at, record_end};
 use text_chars::RecAt;
 
-/// What a layer is to a path.
+/// An object's members: they stand from one place up to another.
 #[derive(Clone, Copy)]
-pub enum View {
-    /// No object: it has no members, and covers what is below it.
-    Other,
-    /// An object, whose members stand from one place up to another.
-    Object { first: usize, end: usize },
+pub struct Members {
+    pub first: usize,
+    pub end: usize,
 }
 
 /// What stands at a place among an object's members.
@@ -71,37 +69,37 @@ pub fn layer_of(table: &[u16], layer: usize) -> Answered
 }
 
 // A member or a piece: the kind of an object that is a piece is so much more.
-fn item_view(table: &[u16], layer: usize) -> View
+fn item_view(table: &[u16], layer: usize) -> Option<Members>
     requires { layer < capacity }
     ensures { ItemViewIs table.now layer result }
 {
     let kind = doc_items::number_at(table, WIDTH * layer);
     if kind % doc_items::PIECE == doc_items::OBJECT {
         let size = doc_items::number_at(table, WIDTH * layer + COLUMN_SIZE);
-        return View::Object {
+        return Some(Members {
             first: layer + 1,
             end: layer + size,
-        };
+        });
     }
-    View::Other
+    None
 }
 
-fn record_view(records: &[u8], o: usize) -> View
+fn record_view(records: &[u8], o: usize) -> Option<Members>
     requires { Few records.now × (o ≤ max_room) }
     ensures { RecordViewIs records.now o result }
 {
     if kind_at(records, RecAt(o)) == kinds::OBJECT {
         let end = record_end(records, RecAt(o));
-        return View::Object {
+        return Some(Members {
             first: doc_items::CAPACITY + (o + HEAD),
             end: doc_items::CAPACITY + end.0,
-        };
+        });
     }
-    View::Other
+    None
 }
 
-/// Whether a layer is an object, and where its members stand.
-pub fn view_of(table: &[u16], records: &[u8], layer: usize) -> View
+/// The members of a layer that is an object; any other covers what is below it.
+pub fn view_of(table: &[u16], records: &[u8], layer: usize) -> Option<Members>
     requires { Few records.now }
     ensures { ViewIs table.now records.now layer result }
 {
@@ -112,7 +110,7 @@ pub fn view_of(table: &[u16], records: &[u8], layer: usize) -> View
     if o <= limits::ROOM {
         return record_view(records, o);
     }
-    View::Other
+    None
 }
 
 fn item_member(table: &[u16], p: usize) -> Member

@@ -4,7 +4,7 @@
 ghost use Rattle.eval_outcomes.specs.Newest.Contracts.{FromAsked, FromIs, NewestAsked, NewestIs};
 
 use doc_items::number_at;
-use eval_ahead::{Awaited, ahead, first_piece};
+use eval_ahead::{ahead, first_piece};
 use eval_pieces::cursor::pieces_end;
 use eval_results::sizes::Outcome;
 use eval_trail::turns::PIECES;
@@ -44,11 +44,11 @@ pub fn newest_outcome(
 {
     let from = piece_from(table, list, n, item);
     match ahead(table, bytes, env, stack, base, room, item, from) {
-        Awaited::Needs { question, piece } => {
-            list[PIECES + (n - 1)] = piece as u16;
-            Outcome::Needs(question)
+        Some(awaited) => {
+            list[PIECES + (n - 1)] = awaited.piece as u16;
+            Outcome::Needs(awaited.question)
         }
-        Awaited::Nothing => {
+        None => {
             list[PIECES + (n - 1)] = pieces_end(table, item) as u16;
             unresolved_value(table, bytes, env, stack, base, room, item)
         }

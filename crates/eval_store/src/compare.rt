@@ -18,12 +18,10 @@ fn same_bytes(s: &[u8], to: usize, from: &[u8], at: usize, n: usize) -> bool
     requires { (to + n ≤ length s.now) × (at + n ≤ length from.now) }
     ensures { EqIs to (take n (drop at from.now)) s.now result }
 {
-    let mut i = 0;
-    while i < n {
+    for i in 0..n {
         if s[to + i] != from[at + i] {
             return false;
         }
-        i += 1;
     }
     true
 }

@@ -9,10 +9,9 @@ use Rattle.eval_nodes.specs.Model.{members_of}
 use Rattle.eval_stack.specs.Model.{entries, Work, seg-length}
 use Rattle.eval_stack.specs.Clauses.{Same}
 use Rattle.eval_stack.specs.Pushes.{same-lower}
-use Rattle.eval_layers.specs.Model.{Walk, push_members_c}
+use Rattle.eval_layers.specs.Model.{Stuck, Walk, push_members_c}
 use Rattle.eval_layers.specs.Clauses.{walked, WalkedIs, DeeperIs}
 use Rattle.eval_layers.specs.declared.Part.{Part}
-use Rattle.eval_layers.specs.declared.Stuck.{Stuck}
 use Rattle.eval_layers.specs.declared.Walked.{Walked}
 use Rattle.eval_look_back.specs.Clauses.{AroundIs}
 use Rattle.eval_substitutions.specs.Model.{level_c, Levels, level-more}

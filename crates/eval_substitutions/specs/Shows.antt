@@ -1,5 +1,5 @@
 -- The layers that `before` has on the stack, level by level, show the rules' layers before the field.
-use Rattle.std.specs.Prelude.{◌≡◌, refl, ℕ, ◌+◌, ◌-◌, ◌≤◌, ◌<◌, Bool, drop, get_or}
+use Rattle.std.specs.Prelude.{◌≡◌, refl, ℕ, ◌+◌, ◌-◌, ◌≤◌, ◌<◌, Bool, drop, get_or, None}
 use Rattle.std.proofs.Common.{sym, ◌∙◌, arith}
 use Rattle.std.proofs.Math.Path.{ap, subst}
 use Rattle.std.proofs.Math.Bool.{cond}
@@ -30,7 +30,6 @@ use Rattle.eval_root_index.specs.Links.{Follows, Rises, items_before}
 use Rattle.eval_root_index.specs.Documents.{places-rise}
 use Rattle.eval_layers.specs.Model.{Walk, deeper_c}
 use Rattle.eval_layers.specs.Clauses.{walked}
-use Rattle.eval_layers.specs.declared.Stuck.{Stuck}
 use Rattle.eval_layers.specs.declared.Walked.{Walked}
 use Rattle.eval_substitutions.specs.RootFields.Contracts.{push_layers_c, OfRootIs}
 use Rattle.eval_substitutions.specs.RootFields.Root.{items_of, fields_laid}
@@ -148,9 +147,9 @@ module _ (M : Memory) (known : ℕ → Option Answer) (tables : Tables M known) 
       unfolding deeper_in
       root-level {at} {w} {w'} {r} a o =
           let is : at ≡ first.at = a.is js linked rises ∙ first.is ∙ ap (λ (c : Bool). cond c first.at 0) (root-enters.key first.at first.spans) in
-          let laid : walked w' base r ≡ push_layers_c T (entries - base) (items_of M known tables element found.earlier (0 + 1) first.at found.before) ([], Stuck.No) =
-          o.is js linked rises ∙ ap (λ (n : ℕ). push_layers_c T (entries - base) (items_before n js) ([], Stuck.No)) is
-          ∙ ap (λ (cs : List ℕ). push_layers_c T (entries - base) cs ([], Stuck.No)) first.earlier in
+          let laid : walked w' base r ≡ push_layers_c T (entries - base) (items_of M known tables element found.earlier (0 + 1) first.at found.before) ([], None) =
+          o.is js linked rises ∙ ap (λ (n : ℕ). push_layers_c T (entries - base) (items_before n js) ([], None)) is
+          ∙ ap (λ (cs : List ℕ). push_layers_c T (entries - base) cs ([], None)) first.earlier in
           let holds : 0 + weigh known [] + weight_of known (object (join_fields found.earlier (field found.key found.node found.later))) ≤ weight =
           root-enters.holds first.at first.spans in
           subst (λ (n : ℕ). LevelShows n 1 base (walked w' base r)) (sym is) (record {
@@ -159,7 +158,7 @@ module _ (M : Memory) (known : ℕ → Option Answer) (tables : Tables M known) 
             before = root-enters.before first.at first.spans;
             shows = subst (λ (v : Walk). WalkShows M v (below_in known element found.earlier ([], no))) (sym laid)
                 (fields_laid M known tables element (entries - base) first.at (omega (arith, first.spans.low, U.inside)) found.earlier (0 + 1)
-                found.before ([], Stuck.No) ([], no) (tt, tt)
+                found.before ([], None) ([], no) (tt, tt)
                 (omega (arith, enough, earlier-weighs known found.earlier (field found.key found.node found.later))));
             stands = omega arith;
           })

@@ -91,10 +91,7 @@ pub fn path_keys(table: &[u16], texts: &[u8], route: Route, keys: &mut [u16])
     requires { Close route × (route.count ≤ length keys.old) }
     ensures { PathKeysIs texts.now table.now route keys.old keys.new }
 {
-    let mut i = 0;
-    while i < route.count {
-        let k = path_key(table, texts, route, i);
-        keys[i] = k as u16;
-        i += 1;
+    for i in 0..route.count {
+        keys[i] = path_key(table, texts, route, i) as u16;
     }
 }

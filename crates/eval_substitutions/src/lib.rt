@@ -45,11 +45,10 @@ fn before(
         let below = deeper(table, records, work, part, hi, key);
         let first = literal + 1;
         let walk = push_members_named(table, records, work, hi, below, key, first, inner);
-        let stuck = walk.stuck;
         part = Part {
             lo: hi,
             hi: walk.top,
-            stuck,
+            stuck: walk.stuck,
         };
         literal = inner;
         i += 1;
@@ -77,21 +76,19 @@ pub fn layers_for(
     if 0 < own {
         let field = root_field_around(table, first, item);
         let walk = of_root(table, work, base, first, field);
-        let stuck = walk.stuck;
         let root = Part {
             lo: base,
             hi: walk.top,
-            stuck,
+            stuck: walk.stuck,
         };
         let part = before(table, records, work, root, keys, item, field);
         return walk_path(table, records, work, part, keys, count, own);
     }
     let walk = of_root(table, work, base, first, CAPACITY);
-    let stuck = walk.stuck;
     let part = Part {
         lo: base,
         hi: walk.top,
-        stuck,
+        stuck: walk.stuck,
     };
     walk_path(table, records, work, part, keys, count, 1)
 }

@@ -15,11 +15,10 @@ fn onward(table: &[u16], records: &[u8], work: &mut [u16], part: Part, key: usiz
 {
     let hi = part.hi;
     let walk = eval_layers::deeper(table, records, work, part, hi, key);
-    let stuck = walk.stuck;
     Part {
         lo: hi,
         hi: walk.top,
-        stuck,
+        stuck: walk.stuck,
     }
 }
 
@@ -37,12 +36,10 @@ pub fn walk_path(
     ensures { WalkPathIs table.now records.now keys.now work.old start count from
         work.new result }
 {
-    let mut i = from;
     let mut p = start;
-    while i < count {
+    for i in from..count {
         let key = number_at(keys, i);
         p = onward(table, records, work, p, key);
-        i += 1;
     }
     p
 }

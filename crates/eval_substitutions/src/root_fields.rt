@@ -6,7 +6,7 @@ ghost use Rattle.eval_stack.specs.Clauses.{Stack};
 ghost use Rattle.eval_substitutions.specs.RootFields.Contracts.{OfRootIs};
 
 use doc_items::number_at;
-use eval_layers::{Stuck, Walked};
+use eval_layers::Walked;
 
 /// The root's fields with a key's number that stand before an item, as layers from base on. Links that are right rise, so the walk ends where
 /// one does not.
@@ -17,7 +17,7 @@ pub fn of_root(table: &[u16], work: &mut [u16], base: usize, key: usize, end: us
     let mut i = number_at(table, eval_keys::FIRST + key);
     let mut walk = Walked {
         top: base,
-        stuck: Stuck::No,
+        stuck: None,
     };
     while i != 0 {
         if end <= i {

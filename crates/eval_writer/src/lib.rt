@@ -80,11 +80,7 @@ pub fn fill(out: &mut [u8], to: usize, from: &[u8], at: usize, n: usize)
     requires { (to + n ≤ length out.old) × (at + n ≤ length from.now) }
     ensures { FilledIs to from.now at n out.old out.new }
 {
-    let mut i = 0;
-    while i < n {
-        out[to + i] = from[at + i];
-        i += 1;
-    }
+    out[to..to + n].copy_from_slice(&from[at..at + n]);
 }
 
 // ---- records with their texts

@@ -7,8 +7,8 @@ loop-i-init c = search loop-laws
 pub missed-requires : goal.missed-requires
 missed-requires c = search loop-laws
 
-pub returns-in-Needs : goal.returns-in-Needs
-returns-in-Needs c = search loop-laws
+pub returns-in-Some : goal.returns-in-Some
+returns-in-Some c = search loop-laws
 
 pub next_piece-i-requires : goal.next_piece-i-requires
 next_piece-i-requires c = search loop-laws

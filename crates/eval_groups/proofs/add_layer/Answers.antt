@@ -1,8 +1,8 @@
 use Rattle.eval_groups.proofs.Objects.{layer-addings}
 use Rattle.eval_groups.proofs.add_layer.Goals as goal
 
-pub returns-in-Other : goal.returns-in-Other
-returns-in-Other c = search layer-addings
+pub returns-in-None : goal.returns-in-None
+returns-in-None c = search layer-addings
 
-pub returns-in-Object : goal.returns-in-Object
-returns-in-Object c = search layer-addings
+pub returns-in-Some : goal.returns-in-Some
+returns-in-Some c = search layer-addings

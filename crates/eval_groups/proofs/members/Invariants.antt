@@ -3,6 +3,3 @@ use Rattle.eval_groups.proofs.members.Given as goal
 
 abbrev pub invariant-loop-i : goal.invariant-loop-i
 invariant-loop-i l = MembersInv l.table l.records l.lo l.hi l.initial.work l.work l.i l.t
-
-abbrev pub decreases-loop-i : goal.decreases-loop-i
-decreases-loop-i l = l.i

@@ -1,4 +1,5 @@
 -- One member down a group: laws for `descend`, one for each return.
+use Rattle.std.specs.Prelude.{Some, None}
 use mathlib.Core.Path.{◌≡◌, refl, sym, ap, ◌∙◌}
 use mathlib.Core.List.{List, [], ◌∷◌}
 use Prim.Native.Nat.{ℕ, ◌+◌, ◌-◌, ◌≤◌, ◌<◌}
@@ -7,15 +8,13 @@ use lib.ListN.{length}
 use Rattle.doc_items.specs.Room.{number_bound}
 use Rattle.answers.specs.Theory.Sound.{clash}
 use Rattle.eval_nodes.specs.declared.answer.Answered.{Answered}
-use Rattle.eval_nodes.specs.Model.{answered_at, view_at}
+use Rattle.eval_nodes.specs.Model.{View, answered_at, view_at}
 use Rattle.eval_nodes.specs.Clauses.{AnsweredIs}
 use Rattle.eval_nodes.specs.Members.{layer-small}
-use Rattle.eval_nodes.specs.declared.View.{View}
 use Rattle.eval_stack.specs.Model.{entries, Work, code_at, link_at, seg, seg-length, push_c}
 use Rattle.eval_stack.specs.Clauses.{CodeIs, PushIs, Same, Grew}
 use Rattle.eval_stack.specs.Pushes.{same-link, push-grows}
 use Rattle.eval_layers.specs.Model.{of_end_c, of_other_c}
-use Rattle.eval_layers.specs.declared.Stuck.{Stuck}
 use Rattle.eval_layers.specs.declared.Taken.{Taken}
 use Rattle.eval_groups.specs.Model.{chain_at}
 use Rattle.eval_groups.specs.Chains.{chain-some, chain-last, chain_more}
@@ -78,7 +77,7 @@ module _ {T R : List ℕ} {base : ℕ} {w : List ℕ} {top q c : ℕ} (x : CodeI
         let acc = seg w' base (t - base) in
         let n : length acc ≡ t - base = seg-length w' base (t - base) in
         let k : base + length acc ≡ t = omega arith in
-        let g : of_end_c Stuck.No base (base + length acc) ≡ y = ap (of_end_c Stuck.No base) k ∙ sym e in
+        let g : of_end_c None base (base + length acc) ≡ y = ap (of_end_c None base) k ∙ sym e in
         (acc, here [] (chain-last w q (rw link l)) ∙ went [] ∙ (λ i. (g i, acc)), ap (seg w' base) n, omega arith)
 
     follows_on : {d : Descent} → FollowIs w' base t q d → DescentIs T R base w top q w' d
@@ -103,8 +102,8 @@ unfolding seen_at layer_seen
 object-small {T} {R} {c} {d} {v} h e l = go (answered_at T c) refl (sym h.is ∙ e)
   where
     by : (b : ℕ) (u : View) → view_seen b u ≡ Seen.Object d → b ≡ d
-    by b View.Other f = clash (cc)
-    by b (View.Object p q) f = cc
+    by b None f = clash (cc)
+    by b (Some m) f = cc
 
     go : (a : Answered) → answered_at T c ≡ a → answer_seen T R a ≡ Seen.Object d → d < number_bound
     go (Answered.Layer b) q f =

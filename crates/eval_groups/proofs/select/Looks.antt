@@ -1,20 +1,22 @@
 -- What a member shows: laws for `look_layer` and `look`, one for each return.
+use Rattle.std.specs.Prelude.{Some, None}
 use mathlib.Core.Path.{◌≡◌, sym, ap, ◌∙◌}
 use mathlib.Core.List.{List}
 use Prim.Native.Nat.{ℕ}
+use Rattle.eval_nodes.specs.Model.{View}
 use Rattle.eval_nodes.specs.declared.answer.Answered.{Answered}
 use Rattle.eval_nodes.specs.Clauses.{AnsweredIs, ViewIs}
-use Rattle.eval_nodes.specs.declared.View.{View}
+use Rattle.eval_nodes.specs.declared.Members.{Members}
 use Rattle.eval_groups.specs.Select.Model.{view_seen, layer_seen, answer_seen, seen_at}
 use Rattle.eval_groups.specs.Select.Contracts.{LayerSeenIs, SeenIs}
 use Rattle.eval_groups.specs.declared.select.Seen.{Seen}
 
 module _ {T R : List ℕ} {c : ℕ} {v : View} (h : ViewIs T R c v) where
-  pub view-other : v ≡ View.Other → LayerSeenIs T R c (Seen.Other c)
+  pub view-other : v ≡ None → LayerSeenIs T R c (Seen.Other c)
   unfolding layer_seen
   view-other e = record { is = sym (ap (view_seen c) (sym h.is ∙ e)) }
 
-  pub view-object : {p q : ℕ} → v ≡ View.Object p q → LayerSeenIs T R c (Seen.Object c)
+  pub view-object : {m : Members} → v ≡ Some m → LayerSeenIs T R c (Seen.Object c)
   unfolding layer_seen
   view-object e = record { is = sym (ap (view_seen c) (sym h.is ∙ e)) }
 

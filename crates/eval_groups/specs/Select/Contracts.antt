@@ -1,10 +1,9 @@
 -- What the walk along a group promises.
-use Rattle.std.specs.Prelude.{◌≡◌, ℕ, ◌+◌, ◌-◌, ◌≤◌, ◌<◌, List, [], length}
+use Rattle.std.specs.Prelude.{◌≡◌, ℕ, ◌+◌, ◌-◌, ◌≤◌, ◌<◌, List, [], length, None}
 use Rattle.eval_stack.specs.Model.{entries, link_at, seg}
 use Rattle.eval_stack.specs.Clauses.{Same}
 use Rattle.eval_layers.specs.Model.{of_end_c}
 use Rattle.eval_layers.specs.Clauses.{TakenIs}
-use Rattle.eval_layers.specs.declared.Stuck.{Stuck}
 use Rattle.eval_layers.specs.declared.Taken.{Taken}
 use Rattle.eval_groups.specs.Model.{chain_at, chain_c}
 use Rattle.eval_groups.specs.Select.Model.{layer_seen, seen_at, take_c}
@@ -20,7 +19,7 @@ pub record SeenIs (T R : List ℕ) (c : ℕ) (r : Seen) : Type 0 where
 -- the link falls, or the walk is at its end
 abbrev pub Followed : List ℕ → ℕ → ℕ → ℕ → Descent → Type 0
 Followed w base top q (Descent.More t n) = (t ≡ top) × (n ≡ link_at w q) × (n < q)
-Followed w base top q (Descent.End x) = (q ≤ link_at w q) × (x ≡ of_end_c Stuck.No base top)
+Followed w base top q (Descent.End x) = (q ≤ link_at w q) × (x ≡ of_end_c None base top)
 
 pub record FollowIs (w : List ℕ) (base top q : ℕ) (r : Descent) : Type 0 where
   pub is : Followed w base top q r

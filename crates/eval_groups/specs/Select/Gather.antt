@@ -1,5 +1,5 @@
 -- Members that are taken one by one come to what their layers come to, all walked first: where they have room, `take` is `gather`.
-use Rattle.std.specs.Prelude.{◌≡◌}
+use Rattle.std.specs.Prelude.{◌≡◌, Some, None}
 use Rattle.std.proofs.Math.Path.{refl}
 use Prim.Native.Nat.{ℕ, suc, ◌≤◌, ◌<◌}
 use mathlib.Core.List.{List, [], ◌∷◌}
@@ -7,18 +7,16 @@ use native.Mathlib.Omega.{arith}
 use Rattle.std.proofs.Math.ListN.{length}
 use borrow.Author.Tests.{lt-ltb}
 use Rattle.eval_nodes.specs.declared.answer.Answered.{Answered}
-use Rattle.eval_nodes.specs.Model.{answered_at, view_at}
-use Rattle.eval_nodes.specs.declared.View.{View}
+use Rattle.eval_nodes.specs.Model.{View, answered_at, view_at}
 use Rattle.eval_stack.specs.Model.{push_c}
 use Rattle.eval_layers.specs.Model.{Walk, push_layer_by, push_layer_c, gather_by, gather_c}
-use Rattle.eval_layers.specs.declared.Stuck.{Stuck}
 use Rattle.eval_groups.specs.Select.Model.{view_seen, layer_seen, answer_seen, seen_at, take_by, take_c}
 
 module _ (T R : List ℕ) where
   -- the layers of members, last first
   unfoldable pub layers_c : ℕ → List ℕ → Walk
   unfolding push_layer_c
-  layers_c r [] = ([], Stuck.No)
+  layers_c r [] = ([], None)
   layers_c r (c ∷ cs) = push_layer_c T r c (layers_c r cs)
 
   push-room : (c r : ℕ) (acc : List ℕ) → length acc < r → push_c c r acc ≡ c ∷ acc
@@ -45,8 +43,8 @@ module _ (T R : List ℕ) where
       view : (d : ℕ) (v : View) → ((os : List ℕ) → take_c T R base r cs os ≡ gather_c T R (layers_c r cs).1 base r (layers_c r cs).0 os)
           → take_by base r acc (λ os. take_c T R base r cs os) (view_seen d v)
           ≡ gather_by T R base r acc (λ os. gather_c T R (layers_c r cs).1 base r (layers_c r cs).0 os) d v
-      view d View.Other ih = refl
-      view d (View.Object p e) ih = ih (push_c d r acc)
+      view d None ih = refl
+      view d (Some m) ih = ih (push_c d r acc)
 
       go : (a : Answered) → ((os : List ℕ) → take_c T R base r cs os ≡ gather_c T R (layers_c r cs).1 base r (layers_c r cs).0 os)
           → take_by base r acc (λ os. take_c T R base r cs os) (answer_seen T R a)

@@ -1,6 +1,6 @@
 -- Objects on the stack, and their members above them, grouped by key: what they show of the rules' layers. Nothing here hangs on the answers
 -- that are known: a level stays right while answers come.
-use Rattle.std.specs.Prelude.{◌≡◌, Bool, true, false, cond, leb, eqb, length}
+use Rattle.std.specs.Prelude.{◌≡◌, Bool, true, false, cond, leb, eqb, length, Some, None}
 use Rattle.std.proofs.Math.Path.{refl, sym, ap}
 use Rattle.std.proofs.Common.{subst, ◌∙◌}
 use mathlib.Core.List.{List, [], ◌∷◌, map, reverse, reverse-reverse}
@@ -13,9 +13,8 @@ use Rattle.rules.specs.Tree.{simple, array, object, unresolved, Fields, no_field
 use Rattle.rules.specs.Values.{scalar, array_of, object_of, Members, no-members, member, Answer}
 use Rattle.rules.specs.Layers.{Layer, written, settled, keys_in_order}
 use Rattle.rules.specs.Weights.{objects_on}
-use Rattle.eval_nodes.specs.Model.{view_at, key_at, members_of}
+use Rattle.eval_nodes.specs.Model.{View, view_at, key_at, members_of}
 use Rattle.eval_nodes.specs.Members.{key-small}
-use Rattle.eval_nodes.specs.declared.View.{View}
 use Rattle.eval_stack.specs.Model.{stack_at, entries, Work, code_at, link_at, seg, seg-length}
 use Rattle.eval_stack.specs.Clauses.{Same}
 use Rattle.eval_stack.specs.Pushes.{seg_same}
@@ -85,20 +84,20 @@ module _ (M : Memory) where
 
   view-shows : (v : View) (l : Layer) → Viewed M v l → MembersShow (view_members M.table M.records v) (layer_entries l)
   unfolding layer_entries
-  view-shows View.Other (settled (scalar x)) y = tt
-  view-shows View.Other (settled (array_of vs)) y = tt
-  view-shows View.Other (settled (object_of ms)) y = absurd y
-  view-shows View.Other (written (simple x)) y = tt
-  view-shows View.Other (written (array es)) y = tt
-  view-shows View.Other (written (object fs)) y = absurd y
-  view-shows View.Other (written (unresolved b ps)) y = absurd y
-  view-shows (View.Object p e) (settled (scalar x)) y = absurd y
-  view-shows (View.Object p e) (settled (array_of vs)) y = absurd y
-  view-shows (View.Object p e) (settled (object_of ms)) y = finished-show (members_of M.table M.records p e) ms y.0
-  view-shows (View.Object p e) (written (simple x)) y = absurd y
-  view-shows (View.Object p e) (written (array es)) y = absurd y
-  view-shows (View.Object p e) (written (object fs)) y = fields_show (members_of M.table M.records p e) fs y
-  view-shows (View.Object p e) (written (unresolved b ps)) y = absurd y
+  view-shows None (settled (scalar x)) y = tt
+  view-shows None (settled (array_of vs)) y = tt
+  view-shows None (settled (object_of ms)) y = absurd y
+  view-shows None (written (simple x)) y = tt
+  view-shows None (written (array es)) y = tt
+  view-shows None (written (object fs)) y = absurd y
+  view-shows None (written (unresolved b ps)) y = absurd y
+  view-shows (Some v) (settled (scalar x)) y = absurd y
+  view-shows (Some v) (settled (array_of vs)) y = absurd y
+  view-shows (Some v) (settled (object_of ms)) y = finished-show (members_of M.table M.records v.first v.end) ms y.0
+  view-shows (Some v) (written (simple x)) y = absurd y
+  view-shows (Some v) (written (array es)) y = absurd y
+  view-shows (Some v) (written (object fs)) y = fields_show (members_of M.table M.records v.first v.end) fs y
+  view-shows (Some v) (written (unresolved b ps)) y = absurd y
 
   -- objects, lowest first
   objects-show : Stored M → (cs : List ℕ) (rs : List Layer) → Match M cs rs → MembersShow (object_members M.table M.records cs) (entries_up rs)

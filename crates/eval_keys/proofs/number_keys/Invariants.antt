@@ -1,9 +1,5 @@
 use Rattle.eval_keys.proofs.Numberings.{NumbersInv}
-use Prim.Native.Nat.{◌+◌, ◌-◌}
 use Rattle.eval_keys.proofs.number_keys.Given as goal
 
 abbrev pub invariant-loop-i : goal.invariant-loop-i
 invariant-loop-i l = NumbersInv l.texts l.items l.initial.table l.table l.i
-
-abbrev pub decreases-loop-i : goal.decreases-loop-i
-decreases-loop-i l = l.items + 1 - l.i

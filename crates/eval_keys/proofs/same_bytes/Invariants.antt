@@ -1,9 +1,5 @@
 use Rattle.eval_keys.proofs.Readings.{SameInv}
-use Prim.Native.Nat.{◌-◌}
 use Rattle.eval_keys.proofs.same_bytes.Given as goal
 
 abbrev pub invariant-loop-i : goal.invariant-loop-i
-invariant-loop-i l = SameInv l.texts l.a l.b l.n l.i
-
-abbrev pub decreases-loop-i : goal.decreases-loop-i
-decreases-loop-i l = l.n - l.i
+invariant-loop-i l = SameInv l.texts l.fn.from.0 l.fn.at.0 l.fn.len.0 l.i

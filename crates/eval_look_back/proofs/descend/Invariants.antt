@@ -1,9 +1,5 @@
 use Rattle.eval_look_back.specs.Clauses.{Going}
-use Prim.Native.Nat.{◌-◌}
 use Rattle.eval_look_back.proofs.descend.Given as goal
 
 abbrev pub invariant-loop-i : goal.invariant-loop-i
 invariant-loop-i l = Going l.table l.keys l.count l.item l.literal l.i
-
-abbrev pub decreases-loop-i : goal.decreases-loop-i
-decreases-loop-i l = l.count - l.i

@@ -5,6 +5,8 @@ use mathlib.Core.List.{List, []}
 use mathlib.Core.Option.{none}
 use native.Mathlib.Omega.{arith}
 use lib.ListN.{get_or, set}
+use Rattle.std.specs.Prelude.{Some, None}
+use Rattle.std.specs.declared.option.Option.{Option as Maybe}
 use Rattle.answers.specs.Ask.{Trail, lookup, run}
 use Rattle.answers.specs.Theory.AheadTurns.{Fate, fate, fate_of, awaits}
 use Rattle.rules.specs.Bytes.{Text}
@@ -78,7 +80,7 @@ module _ {B E w room L : List ℕ} {base n item : ℕ} (A : NewestAsked B E w ro
   pub from-asked : FromAsked n item
   from-asked = record { some = A.some; few = A.few; item-low = A.asked.high }
 
-  module _ {T w₁ room₁ : List ℕ} {from : ℕ} {r : Awaited} (H : AheadIs T B E base item from w w₁ room₁ r) where
+  module _ {T w₁ room₁ : List ℕ} {from : ℕ} {r : Maybe Awaited} (H : AheadIs T B E base item from w w₁ room₁ r) where
     pub newest-asked : Asked B E w₁ room₁ base item
     newest-asked =
         let a = A.asked in
@@ -93,10 +95,10 @@ module _ {B E w room L : List ℕ} {base n item : ℕ} (A : NewestAsked B E w ro
           high = a.high;
         }
 
-    piece-small : {d p : ℕ} → r ≡ Awaited.Needs d p → p < capacity
+    piece-small : {a : Awaited} → r ≡ Some a → a.piece < capacity
     piece-small e = rw e at H.within
 
-    pub piece-fits : {d p : ℕ} → r ≡ Awaited.Needs d p → p < 65536
+    pub piece-fits : {a : Awaited} → r ≡ Some a → a.piece < 65536
     piece-fits e = omega (arith, piece-small e)
 
     -- ---- the ends
@@ -118,21 +120,21 @@ module _ {B E w room L : List ℕ} {base n item : ℕ} (A : NewestAsked B E w ro
             → fate (lookup S) ss (rule_of x b) ≡ f
         by-needs f e = ap (λ (ns : List Needed). fate (lookup S) ns (rule_of x b)) (sym there.needs) ∙ e
 
-        awaits-at : {d p : ℕ} (room₂ : List ℕ) → r ≡ Awaited.Needs d p → Awaits x key items T room₂ S b u item p ss d
-        awaits-at {d} {p} room₂ e =
-            let s : Stops x (lookup S) u T item there.rest d p = subst (λ (y : Awaited). AheadCase x (lookup S) u T item there.rest y) e came in
+        awaits-at : {a : Awaited} (room₂ : List ℕ) → r ≡ Some a → Awaits x key items T room₂ S b u item a.piece ss a.question
+        awaits-at {a} room₂ e =
+            let s : Stops x (lookup S) u T item there.rest a.question a.piece = subst (λ (y : Maybe Awaited). AheadCase x (lookup S) u T item there.rest y) e came in
             record {
               further = needs_of x.document.root x.environment u.openness s.rest;
-              is = by-needs (awaits d (needs_of x.document.root x.environment u.openness s.rest)) (stops-fate Q (rule_of x b) s low);
+              is = by-needs (awaits a.question (needs_of x.document.root x.environment u.openness s.rest)) (stops-fate Q (rule_of x b) s low);
               goes = further (omega (arith, behind_more s.behind)) (omega (arith, piece-small e))
                   (record { rest = s.rest; behind = s.behind; needs = refl });
             }
 
-        looked : r ≡ Awaited.Nothing → fate (lookup S) ss (rule_of x b) ≡ fate_of (run (lookup S) (rule_of x b))
+        looked : r ≡ None → fate (lookup S) ss (rule_of x b) ≡ fate_of (run (lookup S) (rule_of x b))
         looked e = by-needs (fate_of (run (lookup S) (rule_of x b))) (nothing-fate Q (rule_of x b) passed low)
           where
             passed : Passes x (lookup S) u there.rest no_pieces
-            passed = subst (λ (y : Awaited). AheadCase x (lookup S) u T item there.rest y) e came
+            passed = subst (λ (y : Maybe Awaited). AheadCase x (lookup S) u T item there.rest y) e came
 
         -- all pieces are passed
         ended : {end : ℕ} → EndIs T item end → Goes x u T item end []
@@ -142,27 +144,27 @@ module _ {B E w room L : List ℕ} {base n item : ℕ} (A : NewestAsked B E w ro
             let h : Behind T (item + 1) u.pieces end no_pieces = rw z (all-behind Q u.pieces Behind.none) in
             further (omega (arith, behind_more h)) (omega (arith, D.is)) (record { rest = no_pieces; behind = h; needs = refl })
 
-        runs : (room₂ : List ℕ) {end : ℕ} → r ≡ Awaited.Nothing → EndIs T item end → (o : Outcome)
+        runs : (room₂ : List ℕ) {end : ℕ} → r ≡ None → EndIs T item end → (o : Outcome)
             → OutcomeCase key items T room₂ (run (lookup S) (rule_of x b)) o → NewestCase x key items T room₂ S b u item end ss o
         runs room₂ e D (Outcome.Done y) c = record { looked = looked e; comes = c; goes = ended D }
         runs room₂ e D Outcome.Undefined c = record { looked = looked e; comes = c; goes = ended D }
         runs room₂ e D (Outcome.Needs d) c = record { further = []; is = looked e ∙ ap fate_of c; goes = ended D }
         runs room₂ e D (Outcome.Refused number place) c = record { looked = looked e; comes = c; goes = ended D }
 
-      pub newest-needs : {d p : ℕ} → r ≡ Awaited.Needs d p
-          → NewestIs T E base n item w w₁ B B L (set L (pieces_at + (n - 1)) p) (Outcome.Needs d) room₁
-      newest-needs {d} {p} e = record {
+      pub newest-needs : {a : Awaited} → r ≡ Some a
+          → NewestIs T E base n item w w₁ B B L (set L (pieces_at + (n - 1)) a.piece) (Outcome.Needs a.question) room₁
+      newest-needs {a} e = record {
         left = H.left;
         bytes = refl;
         beside = λ j y l. refl;
         whole = H.whole;
         within = tt;
-        piece = p;
+        piece = a.piece;
         list = refl;
         is = λ x key items S b u ss Q G. (Q.state, awaits-at Q G room₁ e);
       }
 
-      pub newest-runs : {end : ℕ} {w₂ B₂ room₂ : List ℕ} {o : Outcome} → r ≡ Awaited.Nothing → EndIs T item end
+      pub newest-runs : {end : ℕ} {w₂ B₂ room₂ : List ℕ} {o : Outcome} → r ≡ None → EndIs T item end
           → OutcomeIs T E base item w₁ w₂ B B₂ o room₂ → NewestIs T E base n item w w₂ B B₂ L (set L (pieces_at + (n - 1)) end) o room₂
       newest-runs {end} {w₂} {B₂} {room₂} {o} e D O = record {
         left = left-then H.left O.left;

@@ -12,7 +12,7 @@ use borrow.Author.Tests.{eq-eqb, ne_eqb}
 use Rattle.answers.specs.Theory.Sound.{clash}
 use Rattle.rules.specs.Bytes.{Text}
 use Rattle.rules.specs.Sizes.{max_records}
-use Rattle.rules.specs.Sheet.{two, texts, entry_record}
+use Rattle.rules.specs.Sheet.{two, entry_record}
 use Rattle.text_chars.specs.Parts.{part, part-is}
 use Rattle.sheet_kept.specs.Kept.{Held, layout}
 use Rattle.sheet_layout.specs.Model.{eq_at}

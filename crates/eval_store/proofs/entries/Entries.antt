@@ -10,7 +10,7 @@ use Rattle.answers.specs.Ask.{Trail}
 use Rattle.rules.specs.Bytes.{Text}
 use Rattle.rules.specs.Sizes.{max_records}
 use Rattle.rules.specs.Values.{Answer}
-use Rattle.rules.specs.Sheet.{two, records, texts, entry_record, answer_texts, trail_size, trail_text_size, trail_records, trail_texts}
+use Rattle.rules.specs.Sheet.{two, texts, entry_record, answer_texts, trail_size, trail_text_size, trail_records, trail_texts}
 use Rattle.theory.specs.Layout.{length-trail_records, length-trail_texts}
 use Rattle.text_chars.specs.Parts.{part, back, part-is, back_is}
 use Rattle.sheet_kept.specs.Kept.{Held, named, layout}

@@ -1,4 +1,5 @@
 -- One law for each end and turn of the walk along the links.
+use Rattle.std.specs.Prelude.{None}
 use mathlib.Core.Path.{◌≡◌, refl, ap, ◌∙◌}
 use mathlib.Core.List.{List, [], ◌∷◌}
 use Prim.Native.Nat.{ℕ, ◌+◌, ◌-◌, ◌≤◌, ◌<◌}
@@ -14,7 +15,6 @@ use Rattle.eval_stack.specs.Clauses.{Same}
 use Rattle.eval_stack.specs.Pushes.{seg-none}
 use Rattle.eval_layers.specs.Model.{Walk, push_layer_c}
 use Rattle.eval_layers.specs.Clauses.{walked, WalkedIs}
-use Rattle.eval_layers.specs.declared.Stuck.{Stuck}
 use Rattle.eval_layers.specs.declared.Walked.{Walked}
 use Rattle.eval_substitutions.specs.RootFields.Contracts.{push_layers_c, OfRootIs}
 
@@ -24,7 +24,7 @@ of_fields T end base v js = push_layers_c T (entries - base) (items_before end j
 
 pub record LinksInv (T : List ℕ) (k end base : ℕ) (w₀ w : List ℕ) (walk : Walked) (i : ℕ) : Type 0 where
   pub left : (js : List ℕ) → Follows (next_at T) (first_at T k) js → Rises 1 js
-      → Along (next_at T) (of_fields T end base (walked w base walk)) (of_fields T end base ([], Stuck.No) js) i
+      → Along (next_at T) (of_fields T end base (walked w base walk)) (of_fields T end base ([], None) js) i
   pub small : i < number_bound
   pub same : Same base w₀ w
   pub low : base ≤ walk.top
@@ -33,13 +33,13 @@ pub record LinksInv (T : List ℕ) (k end base : ℕ) (w₀ w : List ℕ) (walk 
   pub work : Work w
 
 pub links-start : {T : List ℕ} {k end base : ℕ} {w : List ℕ} {i : ℕ} → base ≤ entries → Work w → ReadIs T (firsts_at + k) i
-    → LinksInv T k end base w w (record { top = base; stuck = Stuck.No }) i
+    → LinksInv T k end base w w (record { top = base; stuck = None }) i
 links-start {T} {k} {end} {base} {w} {i} l h x = record {
   left = λ js f u. record {
     rest = js;
     follows = rw x.is f;
     rises = u;
-    is = ap (λ (cs : List ℕ). of_fields T end base (cs, Stuck.No) js) (seg-none w base);
+    is = ap (λ (cs : List ℕ). of_fields T end base (cs, None) js) (seg-none w base);
   };
   small = x.small;
   same = λ j o. refl;
@@ -62,7 +62,7 @@ module _ {T : List ℕ} {k end base : ℕ} {w₀ w : List ℕ} {walk : Walked} {
   pub links-work : Work w
   links-work = I.work
 
-  ended : ((js : List ℕ) → Follows (next_at T) (first_at T k) js → Rises 1 js → walked w base walk ≡ of_fields T end base ([], Stuck.No) js)
+  ended : ((js : List ℕ) → Follows (next_at T) (first_at T k) js → Rises 1 js → walked w base walk ≡ of_fields T end base ([], None) js)
       → OfRootIs T k end base w₀ w walk
   ended is = record { is = is; same = I.same; low = I.low; high = I.high; len = I.len }
 

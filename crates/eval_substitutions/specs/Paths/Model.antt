@@ -4,9 +4,8 @@ use Prim.Native.Nat.{ℕ, zero, suc, ◌-◌, ◌≤◌}
 use Rattle.std.proofs.Math.ListN.{length}
 use Rattle.eval_stack.specs.Model.{entries, seg}
 use Rattle.eval_stack.specs.Clauses.{Same}
-use Rattle.eval_layers.specs.Model.{deeper_c}
+use Rattle.eval_layers.specs.Model.{Stuck, deeper_c}
 use Rattle.eval_layers.specs.declared.Part.{Part}
-use Rattle.eval_layers.specs.declared.Stuck.{Stuck}
 
 -- layers with the room from them on, and how their walk ended
 pub record Layered : Type 0 where

@@ -1,5 +1,5 @@
 -- The root's fields with a key, laid in order, show the layers one key below the root.
-use Rattle.std.specs.Prelude.{◌≡◌, Bool, true, false, cond}
+use Rattle.std.specs.Prelude.{◌≡◌, Bool, true, false, cond, None}
 use Rattle.std.proofs.Common.{sym, ◌∙◌, arith}
 use Rattle.std.proofs.Math.Path.{ap, subst}
 use Prim.Native.Nat.{ℕ, suc, ◌+◌, ◌*◌, ◌-◌, ◌≤◌, ◌<◌}
@@ -27,7 +27,6 @@ use Rattle.eval_memory.specs.Views.{FieldsIn}
 use Rattle.eval_layers.specs.Model.{Walk, push_layer_c}
 use Rattle.eval_layers.specs.Clauses.{walked}
 use Rattle.eval_layers.specs.Shows.{WalkShows, lay-node}
-use Rattle.eval_layers.specs.declared.Stuck.{Stuck}
 use Rattle.eval_layers.specs.declared.Walked.{Walked}
 use Rattle.eval_substitutions.specs.RootFields.Contracts.{push_layers_c, OfRootIs}
 
@@ -73,8 +72,8 @@ module _ (M : Memory) (known : ℕ → Option Answer) (tables : Tables M known) 
       (places-inside (numbers M.table) (letters 0 M.bytes) 0 M.ends (Number M) t fs (0 + 1) (0 + numbers M.table 1) s)) in
       subst (λ (v : Walk). WalkShows M v (named_in known t fs ([], no)))
       (sym (x.is js h (places-rise (numbers M.table) (letters 0 M.bytes) 0 M.ends (Number M) t fs (0 + 1) (0 + numbers M.table 1) s)
-      ∙ ap (λ (cs : List ℕ). push_layers_c M.table (entries - base) cs ([], Stuck.No)) all))
-      (fields_laid t (entries - base) (0 + numbers M.table 1) (omega (arith, K.whole)) fs (0 + 1) s ([], Stuck.No) ([], no) (tt, tt) (omega arith))
+      ∙ ap (λ (cs : List ℕ). push_layers_c M.table (entries - base) cs ([], None)) all))
+      (fields_laid t (entries - base) (0 + numbers M.table 1) (omega (arith, K.whole)) fs (0 + 1) s ([], None) ([], no) (tt, tt) (omega arith))
   of-root-shows {items} (elements es) K e t {k} {base} {w} {w'} {r} f x l =
       let small : k < capacity = rw f (let n = number_small M.bytes M.table M.items t (omega arith) in omega (arith, tables.stored.few)) in
       subst (λ (v : Walk). WalkShows M v ([], no)) (sym (x.is [] (K.linked k small) tt)) (tt, tt)

@@ -1,9 +1,5 @@
 use Rattle.eval_substitutions.proofs.paths.Paths.{WalkInv}
-use Prim.Native.Nat.{◌-◌}
 use Rattle.eval_substitutions.proofs.paths.walk_path.Given as goal
 
 abbrev pub invariant-loop-i : goal.invariant-loop-i
 invariant-loop-i l = WalkInv l.table l.records l.keys l.initial.work l.initial.p l.count l.from l.work l.i l.p
-
-abbrev pub decreases-loop-i : goal.decreases-loop-i
-decreases-loop-i l = l.count - l.i
