@@ -11,8 +11,9 @@ ghost use Rattle.eval_ahead.specs.Clauses.{FirstIs, FinishedAsked, FinishedIs, L
 use doc_items::CAPACITY;
 use eval_pieces::cursor::{next_piece, pieces_end};
 use eval_pieces::{Piece, piece_of};
+use eval_results::values::Worked;
 use eval_stack::code_at;
-use eval_unresolved::single::{PieceValue, value_of};
+use eval_unresolved::single::value_of;
 
 /// What one piece misses.
 #[derive(Clone, Copy)]
@@ -85,10 +86,10 @@ fn lack_of(
         room.new result }
 {
     match value_of(table, bytes, env, work, base, room, piece) {
-        PieceValue::Needs(b) => Lack::Needs(b),
-        PieceValue::Done(e) => Lack::Nothing,
-        PieceValue::Undefined => Lack::Nothing,
-        PieceValue::Missing(place) => Lack::Nothing,
+        Ok(Worked::Needs(b)) => Lack::Needs(b),
+        Ok(Worked::Done(e)) => Lack::Nothing,
+        Ok(Worked::Undefined) => Lack::Nothing,
+        Err(x) => Lack::Nothing,
     }
 }
 
