@@ -3,14 +3,16 @@ use mathlib.Core.Path.{◌≡◌, refl, subst, ◌∙◌}
 use Prim.Native.Nat.{ℕ, ◌+◌, ◌*◌, ◌-◌, ◌≤◌, ◌<◌}
 use mathlib.Core.Bool.{Bool, true}
 use mathlib.Core.List.{List}
+use Rattle.std.specs.Prelude.{Ok, Err}
 use mathlib.Core.Option.{none}
 use native.Mathlib.Omega.{arith}
 use lib.ListN.{length, get_or}
 use Rattle.std.specs.Prelude.{Some, None}
 use Rattle.std.specs.declared.option.Option.{Option as Maybe}
-use Rattle.answers.specs.Ask.{Trail, lookup, value, missing}
+use Rattle.answers.specs.Ask.{Trail, lookup, value, missing, refused}
 use Rattle.answers.specs.Theory.Sound.{clash}
 use Rattle.rules.specs.Bytes.{Text}
+use Rattle.rules.specs.Refusals.{placed}
 use Rattle.rules.specs.Tree.{Pieces, no_pieces, node_piece, substituted}
 use Rattle.rules.specs.Values.{Answer}
 use Rattle.rules.specs.Settled.{Given}
@@ -18,7 +20,7 @@ use Rattle.rules.specs.Unresolved.{Unresolved}
 use Rattle.rules.specs.Documents.{Setting}
 use Rattle.theory_order.specs.Skeletons.{rest_of, needs_of, needs_of_all}
 use Rattle.theory_order.specs.Looking.{piece_in}
-use Rattle.text_chars.specs.declared.DocAt.{DocAt}
+use Rattle.text_chars.specs.declared.Refusal.{Refusal}
 use Rattle.doc_items.specs.Room.{capacity}
 use Rattle.eval_writer.specs.Clauses.{Room}
 use Rattle.eval_results.specs.declared.extents.Extent.{Extent}
@@ -29,8 +31,8 @@ use Rattle.eval_value_laws.specs.Frames.{left-all, left-then}
 use Rattle.eval_pieces.specs.Clauses.{Lent, PieceCase, PieceIs}
 use Rattle.eval_pieces.specs.declared.Piece.{Piece}
 use Rattle.eval_pieces.specs.Cursor.Contracts.{end_c, EndIs, NextIs}
-use Rattle.eval_unresolved.specs.Single.Contracts.{PieceAsked, PieceValueIs, ValueCase}
-use Rattle.eval_unresolved.specs.declared.single.PieceValue.{PieceValue}
+use Rattle.eval_unresolved.specs.Single.Contracts.{PieceAsked, PieceValue, PieceValueIs, ValueCase}
+use Rattle.eval_results.specs.declared.values.Worked.{Worked}
 use Rattle.eval_question_laws.specs.Clauses.{Asked, Questioned}
 use Rattle.eval_question_laws.specs.Standing.{pieces-begin, pieces_end, node-given, reference-given}
 use Rattle.eval_unresolved.specs.Pieces.Contracts.{Behind}
@@ -118,17 +120,17 @@ module _ {T B E : List ℕ} {base : ℕ} {piece : Piece} {w w' b a : List ℕ} {
   lack-by : (r : Maybe ℕ) → ((key : ℕ → Text) (items : ℕ) (g : Given Answer) → ValueCase key items T g b a v → MissedCase g r) → LackIs T B E base piece w w' a r
   lack-by r f = record { left = k.left; whole = l ∙ A.value.whole; is = λ key items known g c. f key items g (k.is key items known g c) }
 
-  pub lack-needs : {d : ℕ} → v ≡ PieceValue.Needs d → LackIs T B E base piece w w' a (Some d)
-  lack-needs {d} z = lack-by (Some d) (λ key items g c. rw z at c)
+  pub lack-needs : {s : Worked} {d : ℕ} → v ≡ Ok s → s ≡ Worked.Needs d → LackIs T B E base piece w w' a (Some d)
+  lack-needs {s} {d} z q = lack-by (Some d) (λ key items g c. rw (z, q) at c)
 
-  pub lack-done : {e : Extent} → v ≡ PieceValue.Done e → LackIs T B E base piece w w' a None
-  lack-done {e} z = lack-by None (λ key items g c d m. let y : ValueCase key items T g b a (PieceValue.Done e) = rw z at c in clash (cc y.is))
+  pub lack-done : {s : Worked} {e : Extent} → v ≡ Ok s → s ≡ Worked.Done e → LackIs T B E base piece w w' a None
+  lack-done {s} {e} z q = lack-by None (λ key items g c d m. let y : ValueCase key items T g b a (Ok (Worked.Done e)) = rw (z, q) at c in clash (cc y.is))
 
-  pub lack-undefined : v ≡ PieceValue.Undefined → LackIs T B E base piece w w' a None
-  lack-undefined z = lack-by None (λ key items g c d m. let y : g ≡ value none = rw z at c in clash (cc))
+  pub lack-undefined : {s : Worked} → v ≡ Ok s → s ≡ Worked.Undefined → LackIs T B E base piece w w' a None
+  lack-undefined z q = lack-by None (λ key items g c d m. let y : g ≡ value none = rw (z, q) at c in clash (cc))
 
-  pub lack-required : {p : DocAt} → v ≡ PieceValue.Missing p → LackIs T B E base piece w w' a None
-  lack-required {p} z = lack-by None (λ key items g c d m. let y : ValueCase key items T g b a (PieceValue.Missing p) = rw z at c in clash (cc))
+  pub lack-required : {x : Refusal} → v ≡ Err x → LackIs T B E base piece w w' a None
+  lack-required {x} z = lack-by None (λ key items g c d m. let (y, n) : (g ≡ refused (placed 9 x.place.0)) × (x.number ≡ 9) = rw z at c in clash (cc))
 
 pub ruleset lack-laws = (lack-needs, lack-done, lack-undefined, lack-required)
 

@@ -11,8 +11,9 @@ ghost use Rattle.eval_ahead.specs.Clauses.{FirstIs, FinishedAsked, FinishedIs, L
 use doc_items::CAPACITY;
 use eval_pieces::cursor::{next_piece, pieces_end};
 use eval_pieces::{Piece, piece_of};
+use eval_results::values::Worked;
 use eval_stack::code_at;
-use eval_unresolved::single::{PieceValue, value_of};
+use eval_unresolved::single::value_of;
 
 /// What the pieces miss: the question, and the item of the piece that misses it.
 #[derive(Clone, Copy)]
@@ -78,10 +79,10 @@ fn lack_of(
         room.new result }
 {
     match value_of(table, bytes, env, work, base, room, piece) {
-        PieceValue::Needs(b) => Some(b),
-        PieceValue::Done(e) => None,
-        PieceValue::Undefined => None,
-        PieceValue::Missing(place) => None,
+        Ok(Worked::Needs(b)) => Some(b),
+        Ok(Worked::Done(e)) => None,
+        Ok(Worked::Undefined) => None,
+        Err(x) => None,
     }
 }
 

@@ -14,7 +14,7 @@ use Rattle.rules.specs.Environment.{Variable, with_variable, name_from, entries_
 use Rattle.text_chars.specs.Parts.{part_slice}
 use Rattle.text_environment.specs.Clauses.{env, EntryAt, EntryIs}
 use Rattle.text_environment.specs.Answers.{accepted-is}
-use Rattle.std.specs.Prelude.{Option as Maybe, Some, None}
+use Rattle.std.specs.Prelude.{Option as Maybe}
 use Rattle.text_environment.specs.declared.Parts.{Parts}
 use Rattle.text_chars.specs.Clash.{clash}
 use Rattle.text_chars.specs.declared.EnvAt.{EnvAt}

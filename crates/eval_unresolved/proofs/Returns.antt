@@ -3,10 +3,13 @@ use mathlib.Core.Path.{◌≡◌, refl, ◌∙◌}
 use Prim.Native.Nat.{ℕ, ◌+◌}
 use mathlib.Core.Bool.{Bool, true, false}
 use mathlib.Core.List.{List}
+use Rattle.std.specs.Prelude.{Ok, Err}
 use native.Mathlib.Omega.{arith}
 use lib.ListN.{length}
+use Rattle.text_chars.specs.Cursor.{refusal}
 use Rattle.text_chars.specs.declared.DocAt.{DocAt}
 use Rattle.eval_results.specs.declared.extents.Extent.{Extent}
+use Rattle.eval_results.specs.declared.values.Worked.{Worked}
 use Rattle.eval_groups.specs.Select.Levels.{same-below}
 use Rattle.eval_results.specs.Sizes.Contracts.{sized_c}
 use Rattle.eval_results.specs.Sizes.Outcomes.{OutcomeOfIs, outcome-within}
@@ -17,8 +20,7 @@ use Rattle.eval_value_laws.specs.Frames.{left-then}
 use Rattle.eval_pieces.specs.Clauses.{Lent, PieceIs}
 use Rattle.eval_pieces.specs.declared.Piece.{Piece}
 use Rattle.eval_pieces.specs.Cursor.Contracts.{SoleIs}
-use Rattle.eval_unresolved.specs.Single.Contracts.{PieceAsked, PieceValueIs}
-use Rattle.eval_unresolved.specs.declared.single.PieceValue.{PieceValue}
+use Rattle.eval_unresolved.specs.Single.Contracts.{PieceAsked, PieceValue, PieceValueIs}
 use Rattle.eval_question_laws.specs.Clauses.{Asked}
 use Rattle.eval_unresolved.specs.Clauses.{OutcomeIs}
 use Rattle.eval_unresolved.specs.Parts.{OutcomeFor, SoleAsked}
@@ -55,9 +57,9 @@ module _ {B E w b : List ℕ} {base item : ℕ} (A : SoleAsked B E w b base item
       left : Left base w w₂
       left = left-then (record { below = same-below base w w₁ h.same; len = h.len }) k.left
 
-      pub sole-value : {e : Extent} {q : Answered} {r : Outcome} → v ≡ PieceValue.Done e → q ≡ sized_c e → OutcomeOfIs q r
+      pub sole-value : {s : Worked} {e : Extent} {q : Answered} {r : Outcome} → v ≡ Ok s → s ≡ Worked.Done e → q ≡ sized_c e → OutcomeOfIs q r
           → OutcomeFor OnePiece T E base item w w₂ B B r a
-      sole-value {e} z y o =
+      sole-value {s} {e} z d y o =
           let p = rw y at o in
           record {
             left = left;
@@ -65,30 +67,30 @@ module _ {B E w b : List ℕ} {base item : ℕ} (A : SoleAsked B E w b base item
             beside = λ j d m. refl;
             whole = l ∙ A.asked.whole;
             within = outcome-within (sized_c e) p;
-            is = λ x key items S b u Q one. (Q.state, sole-done Q one h k A.asked.whole z p);
+            is = λ x key items S b u Q one. (Q.state, sole-done Q one h k A.asked.whole z d p);
           }
 
-      pub sole_none : v ≡ PieceValue.Undefined → OutcomeFor OnePiece T E base item w w₂ B B Outcome.Undefined a
-      sole_none z = record {
+      pub sole_none : {s : Worked} → v ≡ Ok s → s ≡ Worked.Undefined → OutcomeFor OnePiece T E base item w w₂ B B Outcome.Undefined a
+      sole_none z e = record {
         left = left;
         bytes = refl;
         beside = λ j d m. refl;
         whole = l ∙ A.asked.whole;
         within = tt;
-        is = λ x key items S b u Q one. (Q.state, sole-undefined Q one h k z);
+        is = λ x key items S b u Q one. (Q.state, sole-undefined Q one h k z e);
       }
 
-      pub sole-asks : {d : ℕ} → v ≡ PieceValue.Needs d → OutcomeFor OnePiece T E base item w w₂ B B (Outcome.Needs d) a
-      sole-asks z = record {
+      pub sole-asks : {s : Worked} {d : ℕ} → v ≡ Ok s → s ≡ Worked.Needs d → OutcomeFor OnePiece T E base item w w₂ B B (Outcome.Needs d) a
+      sole-asks z e = record {
         left = left;
         bytes = refl;
         beside = λ j d m. refl;
         whole = l ∙ A.asked.whole;
         within = tt;
-        is = λ x key items S b u Q one. (Q.state, sole-needs Q one h k z);
+        is = λ x key items S b u Q one. (Q.state, sole-needs Q one h k z e);
       }
 
-      pub sole-refused : {p : DocAt} → v ≡ PieceValue.Missing p → OutcomeFor OnePiece T E base item w w₂ B B (Outcome.Refused 9 p) a
+      pub sole-refused : {number : ℕ} {place : DocAt} → v ≡ Err (refusal number place) → OutcomeFor OnePiece T E base item w w₂ B B (Outcome.Refused number place) a
       sole-refused z = record {
         left = left;
         bytes = refl;

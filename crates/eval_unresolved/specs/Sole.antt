@@ -1,5 +1,5 @@
 -- One piece that is a substitution: that the items tell it, and what the rules give for it.
-use Rattle.std.specs.Prelude.{◌≡◌, refl, ℕ, ◌+◌, ◌*◌, ◌≤◌, Bool, true, false, List, get_or}
+use Rattle.std.specs.Prelude.{◌≡◌, refl, ℕ, ◌+◌, ◌*◌, ◌≤◌, Bool, true, false, List, get_or, Ok, Err}
 use Rattle.std.proofs.Math.Path.{ap}
 use Rattle.std.proofs.Common.{subst, ◌∙◌, arith}
 use Rattle.std.proofs.Math.Option.{none, some}
@@ -12,6 +12,7 @@ use Rattle.rules.specs.Settled.{Given}
 use Rattle.rules.specs.Unresolved.{Unresolved}
 use Rattle.rules.specs.Documents.{Setting, rule_of}
 use Rattle.theory.specs.SettledAnswers.{open_in, sized_in, substitution_in}
+use Rattle.text_chars.specs.Cursor.{doc, refusal}
 use Rattle.doc_items.specs.Codes.{reference_code}
 use Rattle.sheet_kept.specs.Kept.{named}
 use Rattle.eval_writer.specs.Clauses.{Room}
@@ -19,6 +20,7 @@ use Rattle.eval_writer.specs.Composition.{start}
 use Rattle.eval_results.specs.declared.extents.Extent.{Extent}
 use Rattle.eval_memory.specs.Keys.{KeyNumber}
 use Rattle.eval_results.specs.Values.Comes.{ValueThere}
+use Rattle.eval_results.specs.declared.values.Worked.{Worked}
 use Rattle.eval_results.specs.Sizes.Contracts.{sized_c}
 use Rattle.eval_results.specs.Sizes.Answers.{AnsweredIs, sized-is}
 use Rattle.eval_results.specs.Sizes.Outcomes.{OutcomeOfIs}
@@ -28,8 +30,7 @@ use Rattle.eval_pieces.specs.Clauses.{PieceIs}
 use Rattle.eval_pieces.specs.Literals.{literal-kind}
 use Rattle.eval_pieces.specs.declared.Piece.{Piece}
 use Rattle.eval_pieces.specs.Cursor.Contracts.{Sole}
-use Rattle.eval_unresolved.specs.Single.Contracts.{PieceValueIs, ValueCase}
-use Rattle.eval_unresolved.specs.declared.single.PieceValue.{PieceValue}
+use Rattle.eval_unresolved.specs.Single.Contracts.{PieceValue, PieceValueIs, ValueCase}
 use Rattle.eval_question_laws.specs.Clauses.{Questioned}
 use Rattle.eval_unresolved.specs.Clauses.{OutcomeCase}
 use Rattle.eval_unresolved.specs.Outcomes.{outcome-is}
@@ -87,33 +88,33 @@ module _ {x : Setting} {key : ℕ → Text} {items : ℕ} {T B E : List ℕ} {S 
         let L : PiecesLeft Q (item + 1) end (substituted one.gap one.substitution no_pieces) = subst (λ (ps : Pieces). PiecesLeft Q (item + 1) end ps) one.is (pieces-begin Q) in
         k.is key items (lookup S) (alone one.substitution) (h.reference x key items (lookup S) u one.substitution (reference-given Q L))
 
-    pub sole-done : {e : Extent} {r : Outcome} → Room room → v ≡ PieceValue.Done e → OutcomeOfIs (sized_c e) r
+    pub sole-done : {s : Worked} {e : Extent} {r : Outcome} → Room room → v ≡ Ok s → s ≡ Worked.Done e → OutcomeOfIs (sized_c e) r
         → OutcomeCase key items T after (run (lookup S) (rule_of x b)) r
-    sole-done {e} {r} whole z o =
-        let y : ValueThere key (KeyNumber T (items + 1)) (alone one.substitution) start e room after = rw z at worked in
-        let s : AnsweredIs key (Good T items) after (sized_in (some (named key y.held)) (some (named key y.held))) (sized_c e) =
+    sole-done {s} {e} {r} whole z q o =
+        let y : ValueThere key (KeyNumber T (items + 1)) (alone one.substitution) start e room after = rw (z, q) at worked in
+        let f : AnsweredIs key (Good T items) after (sized_in (some (named key y.held)) (some (named key y.held))) (sized_c e) =
         sized-is (record { held = y.held; good = y.keys; is = refl; before = room; whole = whole; came = y.came }) in
         let p : run (lookup S) (rule_of x b) ≡ sized_in (some (named key y.held)) (some (named key y.held)) =
         rule-one one ∙ ap (λ (g : Given Answer). then g (λ a. sized_in a a)) y.is in
-        outcome-is items (sized_c e) (rw p s) (rule-distinct Q) o
+        outcome-is items (sized_c e) (rw p f) (rule-distinct Q) o
 
-    pub sole-undefined : v ≡ PieceValue.Undefined → run (lookup S) (rule_of x b) ≡ value none
+    pub sole-undefined : {s : Worked} → v ≡ Ok s → s ≡ Worked.Undefined → run (lookup S) (rule_of x b) ≡ value none
     unfolding sized_in
-    sole-undefined z =
-        let y : alone one.substitution ≡ value none = rw z at worked in
+    sole-undefined z q =
+        let y : alone one.substitution ≡ value none = rw (z, q) at worked in
         rule-one one ∙ ap (λ (g : Given Answer). then g (λ a. sized_in a a)) y
 
-    pub sole-needs : {d : ℕ} → v ≡ PieceValue.Needs d → run (lookup S) (rule_of x b) ≡ missing d
-    sole-needs {d} z =
-        let y : alone one.substitution ≡ missing d = rw z at worked in
+    pub sole-needs : {s : Worked} {d : ℕ} → v ≡ Ok s → s ≡ Worked.Needs d → run (lookup S) (rule_of x b) ≡ missing d
+    sole-needs {s} {d} z q =
+        let y : alone one.substitution ≡ missing d = rw (z, q) at worked in
         rule-one one ∙ ap (λ (g : Given Answer). then g (λ a. sized_in a a)) y
 
-    pub sole-missing : {p : ℕ} → v ≡ PieceValue.Missing (record { 0 = p }) → RefusedWith (run (lookup S) (rule_of x b)) 9 p
-    sole-missing {p} z =
-        let y : alone one.substitution ≡ refused (placed 9 p) = rw z at worked in
+    pub sole-missing : {number p : ℕ} → v ≡ Err (refusal number (doc p)) → RefusedWith (run (lookup S) (rule_of x b)) number p
+    sole-missing {number} {p} z =
+        let (y, n) : (alone one.substitution ≡ refused (placed 9 p)) × (number ≡ 9) = rw z at worked in
         record {
           refusal = placed 9 p;
           is = rule-one one ∙ ap (λ (g : Given Answer). then g (λ a. sized_in a a)) y;
-          its-number = refl;
+          its-number = n;
           its-place = refl;
         }

@@ -12,13 +12,13 @@ ghost use Rattle.eval_unresolved.specs.Clauses.{OutcomeIs};
 ghost use Rattle.eval_unresolved.specs.Parts.{SoleAsked, OutcomeFor};
 
 use crate::pieces::join_pieces;
-use crate::single::{PieceValue, value_of};
-use codes::refusals;
+use crate::single::value_of;
 use eval_concat::join_answer;
 use eval_concat::steps::JoinStep;
 use eval_pieces::cursor::is_sole;
 use eval_pieces::piece_of;
 use eval_results::sizes::{Outcome, outcome_of, sized};
+use eval_results::values::Worked;
 use text_chars::Refusal;
 
 // ---- one piece
@@ -39,13 +39,10 @@ fn sole(
 {
     let piece = piece_of(table, bytes, env, work, base, item, item + 1);
     match value_of(table, bytes, env, work, base, room, piece) {
-        PieceValue::Done(e) => outcome_of(sized(e)),
-        PieceValue::Undefined => Outcome::Undefined,
-        PieceValue::Needs(b) => Outcome::Needs(b),
-        PieceValue::Missing(place) => Outcome::Refused {
-            number: refusals::UNDEFINED,
-            place,
-        },
+        Ok(Worked::Done(e)) => outcome_of(sized(e)),
+        Ok(Worked::Undefined) => Outcome::Undefined,
+        Ok(Worked::Needs(b)) => Outcome::Needs(b),
+        Err(Refusal { number, place }) => Outcome::Refused { number, place },
     }
 }
 

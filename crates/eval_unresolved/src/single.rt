@@ -3,30 +3,17 @@
 ghost use Rattle.eval_value_laws.specs.Clauses.{TakenIn};
 ghost use Rattle.eval_unresolved.specs.Single.Contracts.{TextAsked, TextValueIs, ValueAsked, LayersValueIs, PieceAsked, PieceValueIs};
 
-use codes::kinds;
+use codes::{kinds, refusals};
 use eval_layers::Taken;
 use eval_pieces::Piece;
 use eval_results::extents::{Extent, clip};
 use eval_results::values::Worked;
 use eval_values::{LEVELS, taken_value};
 use eval_writer::{Out, Source, put_string};
-use text_chars::{DocAt, EnvAt, EnvLen, RecAt, TextAt, TextLen};
-
-/// What a piece alone comes to.
-#[derive(Clone, Copy)]
-pub enum PieceValue {
-    // its value is in the room, from the start on
-    Done(Extent),
-    // it is undefined
-    Undefined,
-    // the answer of this question is needed first
-    Needs(usize),
-    // a required substitution is undefined: refusal 9 at its place
-    Missing(DocAt),
-}
+use text_chars::{EnvAt, EnvLen, RecAt, Refusal, TextAt, TextLen};
 
 // A text of the environment as a string.
-fn text_value(room: &mut [u8], env: &[u8], start: EnvAt, size: EnvLen) -> PieceValue
+fn text_value(room: &mut [u8], env: &[u8], start: EnvAt, size: EnvLen) -> Extent
     requires { TextAsked env.now room.old start.0 size.0 }
     ensures { TextValueIs env.now start.0 size.0 result room.old room.new }
 {
@@ -37,7 +24,7 @@ fn text_value(room: &mut [u8], env: &[u8], start: EnvAt, size: EnvLen) -> PieceV
     let at = TextAt(start.0);
     let n = TextLen(size.0);
     let out = put_string(room, env, kinds::STRING, at, n, first);
-    PieceValue::Done(clip(out, 0))
+    clip(out, 0)
 }
 
 // What layers came to, whose objects stand from top on.
@@ -48,7 +35,7 @@ fn layers_value(
     room: &mut [u8],
     top: usize,
     taken: Taken,
-) -> PieceValue
+) -> Worked
     requires { ValueAsked bytes.now work.old top room.old × TakenIn top taken }
     ensures { LayersValueIs table.now bytes.now top taken work.old work.new result
         room.old room.new }
@@ -61,11 +48,7 @@ fn layers_value(
         rec: RecAt(0),
         text: TextAt(0),
     };
-    match taken_value(table, bytes, work, room, answers, top, taken, first, LEVELS) {
-        Worked::Done(e) => PieceValue::Done(e),
-        Worked::Undefined => PieceValue::Undefined,
-        Worked::Needs(b) => PieceValue::Needs(b),
-    }
+    taken_value(table, bytes, work, room, answers, top, taken, first, LEVELS)
 }
 
 /// The value of a piece, from the room's start on. The stack is free from base on, but for what the piece has there.
@@ -77,19 +60,26 @@ pub fn value_of(
     base: usize,
     room: &mut [u8],
     piece: Piece,
-) -> PieceValue
+) -> Result<Worked, Refusal>
     requires { PieceAsked bytes.now env.now work.old base room.old piece }
     ensures { PieceValueIs table.now bytes.now env.now base piece work.old work.new result
         room.old room.new }
 {
     match piece {
-        Piece::Text { start, size } => text_value(room, env, start, size),
-        Piece::Undefined => PieceValue::Undefined,
+        Piece::Text { start, size } => Ok(Worked::Done(text_value(room, env, start, size))),
+        Piece::Undefined => Ok(Worked::Undefined),
         Piece::One { top, layer } => {
-            layers_value(table, bytes, work, room, top, Taken::One(layer))
+            let taken = Taken::One(layer);
+            Ok(layers_value(table, bytes, work, room, top, taken))
         }
-        Piece::Merged { lo, hi } => layers_value(table, bytes, work, room, lo, Taken::Merged(hi)),
-        Piece::Needs(b) => PieceValue::Needs(b),
-        Piece::Missing(place) => PieceValue::Missing(place),
+        Piece::Merged { lo, hi } => {
+            let taken = Taken::Merged(hi);
+            Ok(layers_value(table, bytes, work, room, lo, taken))
+        }
+        Piece::Needs(b) => Ok(Worked::Needs(b)),
+        Piece::Missing(place) => {
+            let number = refusals::UNDEFINED;
+            Err(Refusal { number, place })
+        }
     }
 }

@@ -1,7 +1,8 @@
 -- A law for each place where a function returns, and for what is lent on.
-use mathlib.Core.Path.{◌≡◌, refl, ap, ◌∙◌}
+use mathlib.Core.Path.{◌≡◌, refl, sym, ap, subst, ◌∙◌}
 use Prim.Native.Nat.{ℕ, ◌+◌, ◌-◌, ◌≤◌}
 use mathlib.Core.List.{List, [], ◌∷◌, ◌++◌}
+use Rattle.std.specs.Prelude.{Ok, Err}
 use native.Mathlib.Omega.{arith}
 use lib.ListN.{length, take, drop}
 use lib.Seq.{slice, length-slice}
@@ -10,11 +11,12 @@ use Rattle.answers.specs.Ask.{value}
 use Rattle.rules.specs.Bytes.{Text}
 use Rattle.rules.specs.Sizes.{max_room, max_unresolved}
 use Rattle.rules.specs.Tree.{string}
-use Rattle.rules.specs.Values.{nesting_of}
+use Rattle.rules.specs.Values.{Answer, nesting_of}
 use Rattle.rules.specs.Layers.{one, merged}
-use Rattle.rules.specs.Settled.{counted_in}
+use Rattle.rules.specs.Settled.{Given, counted_in}
 use Rattle.rules.specs.Sheet.{two}
 use Rattle.text_chars.specs.Parts.{part_slice}
+use Rattle.text_chars.specs.Cursor.{refusal}
 use Rattle.text_chars.specs.declared.DocAt.{DocAt}
 use Rattle.text_chars.specs.declared.EnvAt.{EnvAt}
 use Rattle.text_chars.specs.declared.EnvLen.{EnvLen}
@@ -31,14 +33,15 @@ use Rattle.eval_results.specs.Extents.Came.{came-clipped}
 use Rattle.eval_results.specs.declared.extents.Extent.{Extent}
 use Rattle.eval_stack.specs.Model.{entries}
 use Rattle.eval_layers.specs.declared.Taken.{Taken}
+use Rattle.eval_memory.specs.Keys.{KeyNumber}
+use Rattle.eval_results.specs.Values.Comes.{ComesBy}
 use Rattle.eval_results.specs.declared.values.Worked.{Worked}
 use Rattle.eval_value_laws.specs.Ground.{Names}
-use Rattle.eval_value_laws.specs.Clauses.{Asked, TakenValueIs}
+use Rattle.eval_value_laws.specs.Clauses.{Asked, TakenValueIs, counted_by}
 use Rattle.eval_value_laws.specs.Frames.{left-all, left-lower}
 use Rattle.eval_pieces.specs.Clauses.{Inside}
 use Rattle.eval_pieces.specs.declared.Piece.{Piece}
-use Rattle.eval_unresolved.specs.Single.Contracts.{TextAsked, ValueAsked, PieceAsked, TextValueIs, LayersValueIs, PieceValueIs}
-use Rattle.eval_unresolved.specs.declared.single.PieceValue.{PieceValue}
+use Rattle.eval_unresolved.specs.Single.Contracts.{TextAsked, ValueAsked, PieceAsked, ValueCase, TextValueIs, LayersValueIs, PieceValueIs}
 
 -- ---- a text
 
@@ -50,7 +53,7 @@ word_slice E at n h =
 
 module _ {E : List ℕ} {at n : ℕ} {b : List ℕ} (A : TextAsked E b at n) where
   pub text-is : {o : Out} {e : Extent} {a : List ℕ} → Wrote (5 ∷ two 0 ++ two n) ((n, word_at E at n) ∷ []) start o b a → ClipIs o 0 e
-      → TextValueIs E at n (PieceValue.Done e) b a
+      → TextValueIs E at n e b a
   unfolding named nesting_of
   text-is w c =
       let z : n ≡ length (slice at (at + n) E) = omega (arith, length-slice at (at + n) E A.inside) in
@@ -85,18 +88,20 @@ module _ {B w : List ℕ} {top : ℕ} {b : List ℕ} (A : ValueAsked B w top b) 
 abbrev names : (ℕ → Text) → ℕ → Names
 names key items = record { key = key; items = items + 1; ends = text_room; answered = max_unresolved; filled = max_room; filled-text = max_room }
 
-module _ {T B : List ℕ} {top : ℕ} {taken : Taken} {w w' : List ℕ} {r : Worked} {b a : List ℕ} (f : TakenValueIs T B answers top taken start 65 w w' r b a) where
-  pub layers-done : {e : Extent} → r ≡ Worked.Done e → LayersValueIs T B top taken w w' (PieceValue.Done e) b a
-  layers-done z = record { left = f.left; is = λ key items known d g G. rw z at (f.is (names key items) known d g G).is }
+worked-case : (key : ℕ → Text) (items : ℕ) (T : List ℕ) (g : Given Answer) (b a : List ℕ) (r : Worked)
+    → ComesBy key (KeyNumber T (items + 1)) g start b a r → ValueCase key items T g b a (Ok r)
+worked-case key items T g b a (Worked.Done e) h = h
+worked-case key items T g b a Worked.Undefined h = h.0
+worked-case key items T g b a (Worked.Needs n) h = h
 
-  pub layers-undefined : r ≡ Worked.Undefined → LayersValueIs T B top taken w w' PieceValue.Undefined b a
-  layers-undefined z =
-      record { left = f.left; is = λ key items known d g G. let y = rw z at (f.is (names key items) known d g G).is in y.0 }
+pub layers-is : {T B : List ℕ} {top : ℕ} {taken : Taken} {w w' : List ℕ} {r : Worked} {b a : List ℕ} → TakenValueIs T B answers top taken start 65 w w' r b a
+    → LayersValueIs T B top taken w w' r b a
+layers-is {T} {r = r} {b} {a} f = record {
+  left = f.left;
+  is = λ key items known d g G. worked-case key items T (counted_by known d g) b a r (f.is (names key items) known d g G).is;
+}
 
-  pub layers-needs : {n : ℕ} → r ≡ Worked.Needs n → LayersValueIs T B top taken w w' (PieceValue.Needs n) b a
-  layers-needs z = record { left = f.left; is = λ key items known d g G. rw z at (f.is (names key items) known d g G).is }
-
-pub ruleset layer-laws = (layers-asked, layers-done, layers-undefined, layers-needs)
+pub ruleset layer-laws = (layers-asked, layers-is)
 
 -- ---- a piece
 
@@ -121,41 +126,43 @@ module _ {B E w : List ℕ} {base : ℕ} {piece : Piece} {b : List ℕ} (P : Pie
   merged-high {lo} {hi} z = let i : Inside base (length E) (Piece.Merged lo hi) = rw z at P.inside in i.2
 
   module _ {T : List ℕ} where
-    pub piece-one : {top c : ℕ} {w' : List ℕ} {r : PieceValue} {a : List ℕ} → piece ≡ Piece.One top c
-        → LayersValueIs T B top (Taken.One c) w w' r b a → PieceValueIs T B E base piece w w' r b a
+    pub piece-one : {top c : ℕ} {w' : List ℕ} {r : Worked} {a : List ℕ} → piece ≡ Piece.One top c
+        → LayersValueIs T B top (Taken.One c) w w' r b a → PieceValueIs T B E base piece w w' (Ok r) b a
     unfolding counted_in
-    piece-one {top} {c} z f =
+    piece-one {top} {c} {r = r} {a} z f =
         let i : Inside base (length E) (Piece.One top c) = rw z at P.inside in
         rw z (record {
           left = left-lower i.0 f.left;
           is = λ key items known g G.
-              rw G.is (f.is key items known G.depth (value (one G.layer)) (record { is = (G.layer, refl, G.given) }));
+              subst (λ (u : Given Answer). ValueCase key items T u b a (Ok r)) (sym G.is)
+              (f.is key items known G.depth (value (one G.layer)) (record { is = (G.layer, refl, G.given) }));
         })
 
-    pub piece-merged : {lo hi : ℕ} {w' : List ℕ} {r : PieceValue} {a : List ℕ} → piece ≡ Piece.Merged lo hi
-        → LayersValueIs T B lo (Taken.Merged hi) w w' r b a → PieceValueIs T B E base piece w w' r b a
+    pub piece-merged : {lo hi : ℕ} {w' : List ℕ} {r : Worked} {a : List ℕ} → piece ≡ Piece.Merged lo hi
+        → LayersValueIs T B lo (Taken.Merged hi) w w' r b a → PieceValueIs T B E base piece w w' (Ok r) b a
     unfolding counted_in
-    piece-merged {lo} {hi} z f =
+    piece-merged {lo} {hi} {r = r} {a} z f =
         let i : Inside base (length E) (Piece.Merged lo hi) = rw z at P.inside in
         rw z (record {
           left = left-lower i.0 f.left;
           is = λ key items known g G.
-              rw G.is (f.is key items known G.depth (value (merged G.objects)) (record { is = (G.objects, refl, G.given) }));
+              subst (λ (u : Given Answer). ValueCase key items T u b a (Ok r)) (sym G.is)
+              (f.is key items known G.depth (value (merged G.objects)) (record { is = (G.objects, refl, G.given) }));
         })
 
 module _ {T B E w : List ℕ} {base : ℕ} {piece : Piece} {b : List ℕ} where
-  pub piece-text : {s : EnvAt} {n : EnvLen} {r : PieceValue} {a : List ℕ} → piece ≡ Piece.Text s n
-      → TextValueIs E s.0 n.0 r b a → PieceValueIs T B E base piece w w r b a
+  pub piece-text : {s : EnvAt} {n : EnvLen} {e : Extent} {a : List ℕ} → piece ≡ Piece.Text s n
+      → TextValueIs E s.0 n.0 e b a → PieceValueIs T B E base piece w w (Ok (Worked.Done e)) b a
   piece-text z f = rw z (record { left = left-all; is = λ key items known g P. rw P (f.is key items T) })
 
-  pub piece-undefined : piece ≡ Piece.Undefined → PieceValueIs T B E base piece w w PieceValue.Undefined b b
+  pub piece-undefined : piece ≡ Piece.Undefined → PieceValueIs T B E base piece w w (Ok Worked.Undefined) b b
   piece-undefined z = rw z (record { left = left-all; is = λ key items known g P. P })
 
-  pub piece-needs : {d : ℕ} → piece ≡ Piece.Needs d → PieceValueIs T B E base piece w w (PieceValue.Needs d) b b
+  pub piece-needs : {d : ℕ} → piece ≡ Piece.Needs d → PieceValueIs T B E base piece w w (Ok (Worked.Needs d)) b b
   piece-needs z = rw z (record { left = left-all; is = λ key items known g P. P })
 
-  pub piece-missing : {p : DocAt} → piece ≡ Piece.Missing p → PieceValueIs T B E base piece w w (PieceValue.Missing p) b b
-  piece-missing z = rw z (record { left = left-all; is = λ key items known g P. P })
+  pub piece-missing : {p : DocAt} → piece ≡ Piece.Missing p → PieceValueIs T B E base piece w w (Err (refusal 9 p)) b b
+  piece-missing z = rw z (record { left = left-all; is = λ key items known g P. (P, refl) })
 
 pub ruleset piece-laws = (
   piece-text-asked,

@@ -7,14 +7,14 @@ piece_of-piece-requires c = search sole-laws
 pub value_of-requires : goal.value_of-requires
 value_of-requires c = search sole-laws
 
-pub returns-in-Done : goal.returns-in-Done
-returns-in-Done c = search sole-laws
+pub returns-in-Ok-Done : goal.returns-in-Ok-Done
+returns-in-Ok-Done c = search sole-laws
 
-pub returns-in-Undefined : goal.returns-in-Undefined
-returns-in-Undefined c = search sole-laws
+pub returns-in-Ok-Undefined : goal.returns-in-Ok-Undefined
+returns-in-Ok-Undefined c = search sole-laws
 
-pub returns-in-Needs : goal.returns-in-Needs
-returns-in-Needs c = search sole-laws
+pub returns-in-Ok-Needs : goal.returns-in-Ok-Needs
+returns-in-Ok-Needs c = search sole-laws
 
-pub returns-in-Missing : goal.returns-in-Missing
-returns-in-Missing c = search sole-laws
+pub returns-in-Err : goal.returns-in-Err
+returns-in-Err c = search sole-laws

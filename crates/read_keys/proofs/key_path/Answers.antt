@@ -7,8 +7,8 @@ returns-in_err-path c =
     let p = err_from_is_err_and c.from_residual.result c.from_residual.ensures.1 in
     rw (p.1, p.2) (search (key-paths, c.in_err-path.was))
 
-pub returns-then-path-count-eq0 : goal.returns-then-path-count-eq0
-returns-then-path-count-eq0 c = search (key-paths, c.in_ok-path.was)
+pub returns-then-path-eq0 : goal.returns-then-path-eq0
+returns-then-path-eq0 c = search (key-paths, c.in_ok-path.was)
 
 pub judge_key-requires : goal.judge_key-requires
 judge_key-requires c = search (asks-judged, c.in_ok-path.was)
