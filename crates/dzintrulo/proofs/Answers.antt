@@ -6,7 +6,8 @@ use Rattle.rules.specs.Jobs as J
 use Rattle.sheet_paths.specs.Answers.{job_of, packed, Packable}
 use Rattle.sheet_paths.specs.declared.Found.{Found}
 use Rattle.text_lengths.specs.Micrometres.Contracts.{measured_of}
-use Rattle.text_lengths.specs.declared.micrometres.Measured.{Measured}
+use Rattle.std.specs.Prelude.{Result}
+use Rattle.text_chars.specs.declared.Refusal.{Refusal}
 use Rattle.job_length.specs.Packed.{packed_length}
 use Rattle.job_look_up.specs.LookUpJob.{answer-packable}
 use Rattle.rules_profile.specs.Profile.{profile_job}
@@ -22,7 +23,7 @@ module _ (table text path : List ℕ) (r : Found) (k : job_of r ≡ J.look_up_jo
   pub packed-answer : {v : ℕ} → v ≡ packed (job_of r) → v ≡ packed (J.look_up_job table text path)
   packed-answer e = e ∙ ap packed k
 
-pub packed-length : (table text : List ℕ) (m : Measured) {v : ℕ} → measured_of m ≡ J.length_job table text → v ≡ packed_length (measured_of m)
+pub packed-length : (table text : List ℕ) (m : Result ℕ Refusal) {v : ℕ} → measured_of m ≡ J.length_job table text → v ≡ packed_length (measured_of m)
     → v ≡ packed_length (J.length_job table text)
 packed-length table text m k e = e ∙ ap packed_length k
 

@@ -13,6 +13,7 @@ use Rattle.rules.specs.Environment.{Variable, with_variable, name_from, entries_
 use Rattle.text_chars.specs.Parts.{part_slice}
 use Rattle.text_environment.specs.Clauses.{env, EntryAt, EntryIs}
 use Rattle.text_environment.specs.Answers.{accepted-is}
+use Rattle.std.specs.Prelude.{Option as Maybe, Some, None}
 use Rattle.text_environment.specs.declared.Parts.{Parts}
 use Rattle.text_chars.specs.Clash.{clash}
 use Rattle.text_chars.specs.declared.EnvAt.{EnvAt}
@@ -49,24 +50,24 @@ module _ {s n : List ℕ} {at : ℕ} (L : Looking s n at) where
     inside = tt;
   }
 
-  module _ {r : Parts} (h : EntryIs s at r) where
-    pub look-broken : r ≡ Parts.Broken → FindIs s n Found.Nothing
+  module _ {r : Maybe Parts} (h : EntryIs s at r) where
+    pub look-broken : r ≡ None → FindIs s n Found.Nothing
     look-broken b = record {
       is = λ es e.
-          let i : EntryAt s at Parts.Broken = rw b at h.is in
+          let i : EntryAt s at None = rw b at h.is in
           let (rest, q, t) = L.is es e in
           clash (cc);
       inside = tt;
     }
 
-    module _ {q z : EnvAt} (w : r ≡ Parts.Whole q z) where
-      i : EntryAt s at (Parts.Whole q z)
+    module _ {p : Parts} (w : r ≡ Some p) where
+      i : EntryAt s at (Some p)
       i = rw w at h.is
 
       -- the first of the entries left, and those behind it
       first : (es : List Variable) → entries_of s ≡ some es
-          → (rest : List Variable) × (name_from [] (drop (z.0 + 1) s) ≡ some rest)
-          × (text_of es n ≡ elim (same (slice at q.0 s) n) [ true ↦ some (slice (q.0 + 1) z.0 s) | false ↦ text_of rest n ])
+          → (rest : List Variable) × (name_from [] (drop (p.zero.0 + 1) s) ≡ some rest)
+          × (text_of es n ≡ elim (same (slice at p.equals.0 s) n) [ true ↦ some (slice (p.equals.0 + 1) p.zero.0 s) | false ↦ text_of rest n ])
       unfolding text_of
       first es e =
           let (here, b, t) = L.is es e in
@@ -74,35 +75,35 @@ module _ {s n : List ℕ} {at : ℕ} (L : Looking s n at) where
           (rest, c, t ∙ ap (λ (x : List Variable). text_of x n) d)
 
       -- the name is lent as a part of the environment
-      name-is : {f : Bool} → f ≡ same (take (q.0 - at) (drop at s)) n → f ≡ same (slice at q.0 s) n
-      name-is k = k ∙ ap (λ (t : List ℕ). same t n) (part_slice s at q.0 (omega (arith, i.0)))
+      name-is : {f : Bool} → f ≡ same (take (p.equals.0 - at) (drop at s)) n → f ≡ same (slice at p.equals.0 s) n
+      name-is k = k ∙ ap (λ (t : List ℕ). same t n) (part_slice s at p.equals.0 (omega (arith, i.0)))
 
-      pub name-low : at ≤ q.0
+      pub name-low : at ≤ p.equals.0
       name-low = omega (arith, i.0)
 
-      pub name-inside : q.0 ≤ length s
+      pub name-inside : p.equals.0 ≤ length s
       name-inside = omega (arith, i.1, i.2)
 
-      name-size : length (take (q.0 - at) (drop at s)) ≡ q.0 - at
-      name-size = length-take-le (q.0 - at) (drop at s) (omega (arith, i.1, i.2, length-drop at s))
+      name-size : length (take (p.equals.0 - at) (drop at s)) ≡ p.equals.0 - at
+      name-size = length-take-le (p.equals.0 - at) (drop at s) (omega (arith, i.1, i.2, length-drop at s))
 
       -- and is not empty
-      pub name-some : 0 < length (take (q.0 - at) (drop at s))
+      pub name-some : 0 < length (take (p.equals.0 - at) (drop at s))
       name-some = omega (arith, name-size, i.0)
 
-      pub name-short : length s ≤ max_environment → length (take (q.0 - at) (drop at s)) ≤ max_environment
+      pub name-short : length s ≤ max_environment → length (take (p.equals.0 - at) (drop at s)) ≤ max_environment
       name-short l = omega (arith, name-size, i.1, i.2)
 
-      pub look-found : {f : Bool} → f ≡ same (take (q.0 - at) (drop at s)) n → f ≡ true
-          → FindIs s n (Found.Text (env (q.0 + 1)) (bytes_of (z.0 - q.0 - 1)))
+      pub look-found : {f : Bool} → f ≡ same (take (p.equals.0 - at) (drop at s)) n → f ≡ true
+          → FindIs s n (Found.Text (env (p.equals.0 + 1)) (bytes_of (p.zero.0 - p.equals.0 - 1)))
       look-found k g =
-          let l : q.0 + 1 + (z.0 - q.0 - 1) ≡ z.0 = omega (arith, i.1) in
+          let l : p.equals.0 + 1 + (p.zero.0 - p.equals.0 - 1) ≡ p.zero.0 = omega (arith, i.1) in
           record {
             is = λ es e. let (rest, c, t) = first es e in rw l (sym (t ∙ rw (sym (name-is k) ∙ g)));
             inside = omega (arith, i.2);
           }
 
-      pub look-next : {f : Bool} → f ≡ same (take (q.0 - at) (drop at s)) n → f ≡ false → Looking s n (z.0 + 1)
+      pub look-next : {f : Bool} → f ≡ same (take (p.equals.0 - at) (drop at s)) n → f ≡ false → Looking s n (p.zero.0 + 1)
       look-next k g = record {
         is = λ es e. let (rest, c, t) = first es e in (rest, c, t ∙ rw (sym (name-is k) ∙ g));
         to = omega (arith, i.2);

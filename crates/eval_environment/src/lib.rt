@@ -124,10 +124,10 @@ fn find_path(env: &[u8], texts: &[u8], path: TextAt, len: TextLen, count: usize)
     let mut at = 0;
     while at < env.len() {
         match entry_at(env, EnvAt(at)) {
-            Parts::Broken => {
+            None => {
                 return Found::Nothing;
             }
-            Parts::Whole { equals, zero } => {
+            Some(Parts { equals, zero }) => {
                 let e = equals.0;
                 let z = zero.0;
                 if is_path(&env[at..e], texts, path, len, count) {

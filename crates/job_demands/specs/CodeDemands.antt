@@ -4,7 +4,7 @@
 -- are b', c' and f'. A run of check is `CheckIs document environment trail table text v`. Of look-up, `found` is what `look_up_answer`
 -- gives and `part` what `look_up` hands back. The words are those of Demands and Promises, which say the same of the rules' jobs. Last,
 -- what is promised of `length`.
-use Rattle.std.specs.Prelude.{◌≡◌, refl, ℕ, ◌+◌, ◌-◌, ◌≤◌, List, [], true, false, ◌↔◌, length, replicate}
+use Rattle.std.specs.Prelude.{◌≡◌, refl, ℕ, ◌+◌, ◌-◌, ◌≤◌, List, [], true, false, ◌↔◌, length, replicate, Result, Ok}
 use Rattle.std.proofs.Common.{sym, ◌∙◌}
 use Rattle.std.proofs.Math.Path.{ap}
 use Rattle.std.proofs.Math.Option.{Option, none, some}
@@ -37,7 +37,7 @@ use Rattle.theory.specs.Promises as promises
 use Rattle.text_chars.specs.declared.DocAt.{DocAt}
 use Rattle.text_chars.specs.Parts.{part_slice}
 use Rattle.text_lengths.specs.Micrometres.Contracts.{measured_of}
-use Rattle.text_lengths.specs.declared.micrometres.Measured.{Measured}
+use Rattle.text_chars.specs.declared.Refusal.{Refusal}
 use Rattle.sheet_paths.specs.Answers.{job_of, part_of, refused-part}
 use Rattle.sheet_paths.specs.declared.Found.{Found}
 use Rattle.job_results.specs.Clauses.{ResolveIs, CheckIs}
@@ -237,13 +237,13 @@ module _ (table text path : List ℕ) {found : Found} (run : job_of found ≡ J.
 
 -- ---- length: `r` is what `length` gives
 
-module _ (table text : List ℕ) (r : Measured) (run : measured_of r ≡ J.length_job table text) where
+module _ (table text : List ℕ) (r : Result ℕ Refusal) (run : measured_of r ≡ J.length_job table text) where
   -- a refusal has a number of the list
   pub length-refusal : promises.Refuses (measured_of r).number → promises.OneOf length_numbers (measured_of r).number
   length-refusal h = rw run (promises.length-refusal table text (λ z. h (ap (λ q. q.number) run ∙ z))).0
 
   -- what is answered is exact, and within its limit
-  pub length-exact : (micrometres : ℕ) → r ≡ Measured.Micrometres micrometres → Exact (text_at table text 0) micrometres
+  pub length-exact : (micrometres : ℕ) → r ≡ Ok micrometres → Exact (text_at table text 0) micrometres
   length-exact micrometres h =
       let is : ◌≡◌ {A = rules.Measured} (record { number = 0; micrometres = micrometres }) (J.length_job table text) = rw h at run in
       rw (ap (λ q. q.micrometres) is) (promises.length-exact table text (sym (ap (λ q. q.number) is)))

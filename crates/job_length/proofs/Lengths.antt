@@ -20,20 +20,22 @@ use Rattle.text_chars.specs.Cursor.{ByteIs}
 use Rattle.text_chars.specs.Parts.{part_slice}
 use Rattle.sheet_records.specs.Kinds.Contracts.{PairIs}
 use Rattle.text_lengths.specs.Micrometres.Contracts.{measured_of, MeasuredIs}
-use Rattle.text_lengths.specs.declared.micrometres.Measured.{Measured}
+use Rattle.std.specs.Prelude.{Result, Ok, Err}
+use Rattle.text_chars.specs.Cursor.{doc, refusal}
+use Rattle.text_chars.specs.declared.Refusal.{Refusal}
 use Rattle.job_length.specs.Clauses.{WholeTable}
 use Rattle.job_length.specs.Packed.{packed_length}
 
 -- ---- the record
 
 module _ (table text : List ℕ) {kind : ℕ} (b : ByteIs table 0 kind) where
-  pub record-low : kind < 4 → measured_of (Measured.Refused 20) ≡ record_length table text
+  pub record-low : kind < 4 → {z : Refusal} → z ≡ refusal 20 (doc 0) → measured_of (Err z) ≡ record_length table text
   unfolding record_length no_length
-  record-low h = rw (record_length, ← b.is, lt-leb 4 kind h)
+  record-low h z = rw z (rw (record_length, ← b.is, lt-leb 4 kind h))
 
-  pub record-high : 5 < kind → measured_of (Measured.Refused 20) ≡ record_length table text
+  pub record-high : 5 < kind → {z : Refusal} → z ≡ refusal 20 (doc 0) → measured_of (Err z) ≡ record_length table text
   unfolding record_length no_length
-  record-high h = rw (record_length, ← b.is, le-leb 4 kind (omega arith), lt-leb kind 5 h)
+  record-high h z = rw z (rw (record_length, ← b.is, le-leb 4 kind (omega arith), lt-leb kind 5 h))
 
   module _ (low : 4 ≤ kind) (high : kind ≤ 5) {from size : ℕ} (f : PairIs table 1 from) (n : PairIs table 3 size) where
     -- of a whole table the text is inside the text part
@@ -51,7 +53,7 @@ module _ (table text : List ℕ) {kind : ℕ} (b : ByteIs table 0 kind) where
             other true e = absurd (omega arith)
             other false e = absurd (omega arith)
 
-    pub record-text : (r : Measured) → MeasuredIs (length_of (eqb kind 5) (take (from + size - from) (drop from text))) r
+    pub record-text : (r : Result ℕ Refusal) → MeasuredIs (length_of (eqb kind 5) (take (from + size - from) (drop from text))) r
         → measured_of r ≡ record_length table text
     unfolding record_length text_at
     record-text r e =
@@ -71,32 +73,32 @@ pub ruleset insides = (arith, text-inside)
 -- ---- the job
 
 module _ (table text : List ℕ) where
-  pub long-table : max_room < length table → measured_of (Measured.Refused 1) ≡ length_job table text
+  pub long-table : max_room < length table → {z : Refusal} → z ≡ refusal 1 (doc 0) → measured_of (Err z) ≡ length_job table text
   unfolding no_length
-  long-table l = sym (length-long table text (λ a b. absurd (omega arith)))
+  long-table l z = rw z (sym (length-long table text (λ a b. absurd (omega arith))))
 
-  pub long-text : max_room < length text → measured_of (Measured.Refused 1) ≡ length_job table text
+  pub long-text : max_room < length text → {z : Refusal} → z ≡ refusal 1 (doc 0) → measured_of (Err z) ≡ length_job table text
   unfolding no_length
-  long-text l = sym (length-long table text (λ a b. absurd (omega arith)))
+  long-text l z = rw z (sym (length-long table text (λ a b. absurd (omega arith))))
 
   module _ (short : length table ≤ max_room) (short-text : length text ≤ max_room) {w : Bool} (j : w ≡ is_whole table (length text)) where
-    pub not-whole : w ≡ false → measured_of (Measured.Refused 15) ≡ length_job table text
+    pub not-whole : w ≡ false → {z : Refusal} → z ≡ refusal 15 (doc 0) → measured_of (Err z) ≡ length_job table text
     unfolding no_length
-    not-whole e = sym (length-not-whole table text short short-text (sym j ∙ e))
+    not-whole e z = rw z (sym (length-not-whole table text short short-text (sym j ∙ e)))
 
-    pub whole : (r : Measured) → w ≡ true → measured_of r ≡ record_length table text → measured_of r ≡ length_job table text
+    pub whole : (r : Result ℕ Refusal) → w ≡ true → measured_of r ≡ record_length table text → measured_of r ≡ length_job table text
     whole r e k = k ∙ sym (length_whole table text short short-text (sym j ∙ e))
 
 pub ruleset jobs = (long-table, long-text, not-whole, whole)
 
 -- ---- the packing
 
-module _ {m : Measured} where
-  pub pack-length : {n : ℕ} → m ≡ Measured.Micrometres n → n * 64 ≡ packed_length (measured_of m)
+module _ {m : Result ℕ Refusal} where
+  pub pack-length : {n : ℕ} → m ≡ Ok n → n * 64 ≡ packed_length (measured_of m)
   unfolding packed_length
   pack-length e = rw (e, packed_length) (omega arith)
 
-  pub pack-refusal : {n : ℕ} → m ≡ Measured.Refused n → n ≡ packed_length (measured_of m)
+  pub pack-refusal : {x : Refusal} → m ≡ Err x → x.number ≡ packed_length (measured_of m)
   unfolding packed_length
   pack-refusal e = rw (e, packed_length) (omega arith)
 

@@ -10,8 +10,8 @@ ghost use Rattle.job_length.specs.Packed.{packed_length};
 
 use codes::{kinds, limits, refusals};
 use sheet_records::kinds::pair_at;
-use text_chars::{RecAt, TextLen, record_byte};
-use text_lengths::micrometres::Measured;
+use text_chars::{RecAt, Refusal, TextLen, record_byte};
+use text_lengths::micrometres::no_length;
 
 // The kinds of records that refer to a text are a number and a string.
 const NUMBER: u32 = kinds::NUMBER as u32;
@@ -19,20 +19,16 @@ const NUMBER: u32 = kinds::NUMBER as u32;
 const STRING: u32 = kinds::STRING as u32;
 
 // The length that the record at a table's start refers to.
-fn record_length(table: &[u8], text: &[u8]) -> Measured
+fn record_length(table: &[u8], text: &[u8]) -> Result<u32, Refusal>
     requires { WholeTable table.now text.now }
     ensures { measured_of result ≡ record_length table.now text.now }
 {
     let kind = record_byte(table, RecAt(0));
     if kind < NUMBER {
-        return Measured::Refused {
-            number: refusals::MALFORMED_LENGTH,
-        };
+        return Err(no_length(refusals::MALFORMED_LENGTH));
     }
     if STRING < kind {
-        return Measured::Refused {
-            number: refusals::MALFORMED_LENGTH,
-        };
+        return Err(no_length(refusals::MALFORMED_LENGTH));
     }
     let from = pair_at(table, RecAt(1));
     let to = from + pair_at(table, RecAt(3));
@@ -40,25 +36,19 @@ fn record_length(table: &[u8], text: &[u8]) -> Measured
 }
 
 /// The length that a looked-up value writes, in whole micrometres: what the rules of the job give, for any bytes.
-pub fn length(table: &[u8], text: &[u8]) -> Measured
+pub fn length(table: &[u8], text: &[u8]) -> Result<u32, Refusal>
     ensures { measured_of result ≡ length_job table.now text.now }
 {
     if limits::ROOM < table.len() {
-        return Measured::Refused {
-            number: refusals::BAD_INPUT,
-        };
+        return Err(no_length(refusals::BAD_INPUT));
     }
     if limits::ROOM < text.len() {
-        return Measured::Refused {
-            number: refusals::BAD_INPUT,
-        };
+        return Err(no_length(refusals::BAD_INPUT));
     }
     if sheet_records::is_whole(table, TextLen(text.len())) {
         record_length(table, text)
     } else {
-        Measured::Refused {
-            number: refusals::NOT_A_TABLE,
-        }
+        Err(no_length(refusals::NOT_A_TABLE))
     }
 }
 
@@ -66,11 +56,11 @@ pub fn length(table: &[u8], text: &[u8]) -> Measured
 const MICROMETRES: u64 = 64;
 
 /// A length's or a refusal's 64 bits.
-pub fn pack_length(measured: Measured) -> u64
+pub fn pack_length(measured: Result<u32, Refusal>) -> u64
     ensures { result ≡ packed_length (measured_of measured) }
 {
     match measured {
-        Measured::Micrometres(n) => n as u64 * MICROMETRES,
-        Measured::Refused { number } => number as u64,
+        Ok(n) => n as u64 * MICROMETRES,
+        Err(e) => e.number as u64,
     }
 }

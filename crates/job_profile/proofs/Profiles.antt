@@ -28,7 +28,7 @@ use Rattle.sheet_records.specs.declared.kinds.End.{End}
 use Rattle.sheet_records.specs.Clauses.{past_member}
 use Rattle.text_profiles.specs.Clauses.{max_length, edition_as, length_as, LengthIs}
 use Rattle.text_profiles.specs.declared.Edition as code
-use Rattle.text_profiles.specs.declared.Length.{Length}
+use Rattle.std.specs.Prelude.{Option as Maybe, Some, None}
 use Rattle.job_length.specs.Clauses.{WholeTable}
 use Rattle.job_profile.specs.Clauses.{ValueAt, TextKind, text_or, TextIs, profile_of}
 use Rattle.job_profile.specs.Editions.{profile-long, profile-not-whole, profile-editions}
@@ -183,17 +183,17 @@ written-or (some t) = refl
 
 -- ---- both limits
 
-module _ (edition : ℕ) (low high : Length) where
-  pub no-minimum : low ≡ Length.Missing → profile_of (ProfileRead.Refused 41) ≡ limits_of edition (length_as low) (length_as high)
+module _ (edition : ℕ) (low high : Maybe ℕ) where
+  pub no-minimum : low ≡ None → profile_of (ProfileRead.Refused 41) ≡ limits_of edition (length_as low) (length_as high)
   unfolding limits_of
   no-minimum e = rw (e, limits_of)
 
-  module _ {a : ℕ} (e : low ≡ Length.TenThousandths a) where
-    pub no-maximum : high ≡ Length.Missing → profile_of (ProfileRead.Refused 42) ≡ limits_of edition (length_as low) (length_as high)
+  module _ {a : ℕ} (e : low ≡ Some a) where
+    pub no-maximum : high ≡ None → profile_of (ProfileRead.Refused 42) ≡ limits_of edition (length_as low) (length_as high)
     unfolding limits_of
     no-maximum f = rw (e, f, limits_of)
 
-    module _ {b : ℕ} (f : high ≡ Length.TenThousandths b) where
+    module _ {b : ℕ} (f : high ≡ Some b) where
       pub above : b < a → profile_of (ProfileRead.Refused 43) ≡ limits_of edition (length_as low) (length_as high)
       unfolding limits_of
       above h = rw (e, f, lt-ltb b a h, limits_of)
@@ -206,7 +206,7 @@ pub ruleset limits = (no-minimum, no-maximum, above, in_order)
 
 -- ---- edition 1
 
-module _ (table text : List ℕ) {u : Text} (k : TextIs (text_of_kind table text 5 (member_at table text unit 0)) u) {l : Length}
+module _ (table text : List ℕ) {u : Text} (k : TextIs (text_of_kind table text 5 (member_at table text unit 0)) u) {l : Maybe ℕ}
     (s : LengthIs (step_of (some u)) thousandth l) where
   step_is : length_as l ≡ step_of (text_named table text 5 (unit ∷ []))
   unfolding text_named
@@ -214,16 +214,16 @@ module _ (table text : List ℕ) {u : Text} (k : TextIs (text_of_kind table text
       s.is ∙ ap (λ (t : Text). step_of (some t)) k.is ∙ step-or (text_of_kind table text 5 (member_at table text unit 0))
       ∙ ap (λ (o : Option ℕ). step_of (text_of_kind table text 5 o)) (sym (named-one table text unit 0))
 
-  pub first-no-unit : l ≡ Length.Missing → profile_of (ProfileRead.Refused 40) ≡ first_edition table text
+  pub first-no-unit : l ≡ None → profile_of (ProfileRead.Refused 40) ≡ first_edition table text
   unfolding first_edition
   first-no-unit e = let z : none ≡ step_of (text_named table text 5 (unit ∷ [])) = rw e at step_is in sym (rw (sym z, first_edition))
 
-  module _ {step : ℕ} (e : l ≡ Length.TenThousandths step) where
+  module _ {step : ℕ} (e : l ≡ Some step) where
     pub step_small : step ≤ thousandth
     step_small = rw e at s.at_most
 
     module _ {a b : Text} (i : TextIs (text_named table text 4 (plate ∷ min ∷ [])) a)
-        (j : TextIs (text_named table text 4 (plate ∷ max ∷ [])) b) {low high : Length}
+        (j : TextIs (text_named table text 4 (plate ∷ max ∷ [])) b) {low high : Maybe ℕ}
         (x : LengthIs (bare_length step (some a)) max_length low) (y : LengthIs (bare_length step (some b)) max_length high) where
       pub first-limits : (r : ProfileRead) → profile_of r ≡ limits_of 1 (length_as low) (length_as high) → profile_of r ≡ first_edition table text
       unfolding first_edition
@@ -251,7 +251,7 @@ module _ (table text : List ℕ) {r : End} (k : EndIs (member_at table text unit
       sym (rw (z, second_edition))
 
   module _ (e : r ≡ End.Nowhere) {a b : Text} (i : TextIs (text_named table text 5 (plate ∷ min ∷ [])) a)
-      (j : TextIs (text_named table text 5 (plate ∷ max ∷ [])) b) {low high : Length} (x : LengthIs (written_length (some a)) max_length low)
+      (j : TextIs (text_named table text 5 (plate ∷ max ∷ [])) b) {low high : Maybe ℕ} (x : LengthIs (written_length (some a)) max_length low)
       (y : LengthIs (written_length (some b)) max_length high) where
     pub second-limits : (p : ProfileRead) → profile_of p ≡ limits_of 2 (length_as low) (length_as high) → profile_of p ≡ second_edition table text
     unfolding second_edition
@@ -282,7 +282,7 @@ module _ (table text : List ℕ) where
     unfolding no_profile profile_job
     not-whole e = sym (profile-not-whole first_edition second_edition table text short short-text (sym j ∙ e))
 
-    module _ (e : w ≡ true) {s : Text} (k : TextIs (text_of_kind table text 4 (member_at table text profile 0)) s) (x : code.Edition)
+    module _ (e : w ≡ true) {s : Text} (k : TextIs (text_of_kind table text 4 (member_at table text profile 0)) s) (x : Maybe code.Edition)
         (h : edition_as x ≡ edition_of (some s)) where
       by-edition : profile_job table text ≡ by_edition first_edition second_edition table text (edition_as x)
       unfolding edition_named text_named
@@ -292,17 +292,17 @@ module _ (table text : List ℕ) where
           (sym (h ∙ ap (λ (t : Text). edition_of (some t)) k.is ∙ edition-or (text_of_kind table text 4 (member_at table text profile 0))
           ∙ ap (λ (o : Option ℕ). edition_of (text_of_kind table text 4 o)) (sym (named-one table text profile 0))))
 
-      pub of-first : (r : ProfileRead) → x ≡ code.Edition.First → profile_of r ≡ first_edition table text
+      pub of-first : (r : ProfileRead) {y : code.Edition} → x ≡ Some y → y ≡ code.Edition.First → profile_of r ≡ first_edition table text
           → profile_of r ≡ profile_job table text
       unfolding by_edition
-      of-first r z q = q ∙ sym (by-edition ∙ rw z)
+      of-first r z f q = q ∙ sym (by-edition ∙ rw (z, f))
 
-      pub of-second : (r : ProfileRead) → x ≡ code.Edition.Second → profile_of r ≡ second_edition table text
+      pub of-second : (r : ProfileRead) {y : code.Edition} → x ≡ Some y → y ≡ code.Edition.Second → profile_of r ≡ second_edition table text
           → profile_of r ≡ profile_job table text
       unfolding by_edition
-      of-second r z q = q ∙ sym (by-edition ∙ rw z)
+      of-second r z f q = q ∙ sym (by-edition ∙ rw (z, f))
 
-      pub of_none : x ≡ code.Edition.Unnamed → profile_of (ProfileRead.Refused 39) ≡ profile_job table text
+      pub of_none : x ≡ None → profile_of (ProfileRead.Refused 39) ≡ profile_job table text
       unfolding by_edition no_profile
       of_none z = sym (by-edition ∙ rw z)
 

@@ -13,7 +13,7 @@ ghost use Rattle.job_profile.specs.Packed.{Packable, packed_profile};
 use codes::{kinds, limits, profiles, refusals};
 use sheet_records::kinds::{End, pair_at};
 use text_chars::{RecAt, TextLen, record_byte};
-use text_profiles::{Edition, Length, bare_length, written_length};
+use text_profiles::{Edition, bare_length, written_length};
 
 /// What a table's profile comes to.
 #[derive(Clone, Copy)]
@@ -67,18 +67,18 @@ fn plate_text<'a>(table: &[u8], text: &'a [u8], key: &[u8], kind: u32) -> &'a [u
 }
 
 // Both limits of an edition, of which each may be missing.
-fn limits_of(edition: u8, low: Length, high: Length) -> ProfileRead
+fn limits_of(edition: u8, low: Option<u32>, high: Option<u32>) -> ProfileRead
     ensures { profile_of result ≡ limits_of edition (length_as low) (length_as high) }
 {
     match low {
-        Length::Missing => ProfileRead::Refused {
+        None => ProfileRead::Refused {
             number: refusals::BAD_MINIMUM,
         },
-        Length::TenThousandths(minimum) => match high {
-            Length::Missing => ProfileRead::Refused {
+        Some(minimum) => match high {
+            None => ProfileRead::Refused {
                 number: refusals::BAD_MAXIMUM,
             },
-            Length::TenThousandths(maximum) => {
+            Some(maximum) => {
                 if maximum < minimum {
                     return ProfileRead::Refused {
                         number: refusals::MINIMUM_ABOVE_MAXIMUM,
@@ -100,10 +100,10 @@ fn first_edition(table: &[u8], text: &[u8]) -> ProfileRead
     ensures { profile_of result ≡ first_edition table.now text.now }
 {
     match text_profiles::step_of(member_text(table, text, b"unit", STRING, RecAt(0))) {
-        Length::Missing => ProfileRead::Refused {
+        None => ProfileRead::Refused {
             number: refusals::BAD_UNIT,
         },
-        Length::TenThousandths(step) => {
+        Some(step) => {
             let low = bare_length(plate_text(table, text, b"min", NUMBER), step);
             let high = bare_length(plate_text(table, text, b"max", NUMBER), step);
             limits_of(profiles::FIRST, low, high)
@@ -144,9 +144,9 @@ pub fn profile(table: &[u8], text: &[u8]) -> ProfileRead
     }
     if sheet_records::is_whole(table, TextLen(text.len())) {
         match text_profiles::edition_of(member_text(table, text, b"profile", NUMBER, RecAt(0))) {
-            Edition::First => first_edition(table, text),
-            Edition::Second => second_edition(table, text),
-            Edition::Unnamed => ProfileRead::Refused {
+            Some(Edition::First) => first_edition(table, text),
+            Some(Edition::Second) => second_edition(table, text),
+            None => ProfileRead::Refused {
                 number: refusals::BAD_PROFILE,
             },
         }

@@ -8,19 +8,19 @@ use Rattle.rules.specs.Bytes.{byte_at}
 use Rattle.rules.specs.Pieces.{starts_with, stops_unquoted}
 use Rattle.rules.specs.Paths.{word_include, starts_include}
 use Rattle.text_chars.specs.Cursor.{ByteIs}
+use Rattle.std.specs.Prelude.{Option, Some, None}
 use Rattle.text_chars.specs.declared.Cursor.{Cursor}
 use Rattle.text_unquoted.specs.Clauses.{Spells, SpelledIs, spelled-inside}
-use Rattle.text_unquoted.specs.declared.Letters.{Letters}
 
-module _ {s : List ℕ} {at : ℕ} {r : Letters} (k : SpelledIs word_include s at r) where
-  pub include-no : r ≡ Letters.No → false ≡ starts_include s at
+module _ {s : List ℕ} {at : ℕ} {r : Option Cursor} (k : SpelledIs word_include s at r) where
+  pub include-no : r ≡ None → false ≡ starts_include s at
   unfolding starts_include
   include-no e =
       let n : starts_with word_include s at ≡ false = rw e at k.is in
       rw (n, starts_include)
 
-  module _ {c : Cursor} (e : r ≡ Letters.Yes c) {f : Bool} (i : f ≡ stops_unquoted s c.at.0) where
-    found : Spells word_include s at (Letters.Yes c)
+  module _ {c : Cursor} (e : r ≡ Some c) {f : Bool} (i : f ≡ stops_unquoted s c.at.0) where
+    found : Spells word_include s at (Some c)
     found = rw e at k.is
 
     stop_is : {b : Bool} → f ≡ b → stops_unquoted s (at + 7) ≡ b

@@ -17,7 +17,6 @@ ghost use Rattle.read_grammar.specs.Decisions.{closes, StartIs, NotAllowedIs, Tu
 
 use codes::{bytes, refusals};
 use text_chars::{Cursor, DocAt};
-use text_unquoted::Letters;
 
 /// What begins at a place of a value.
 #[derive(Clone, Copy)]
@@ -189,7 +188,7 @@ pub fn starts_include(s: &[u8], c: Cursor) -> bool
     requires { (length s.now ≤ max_document) × (c.at.0 ≤ length s.now) }
     ensures { result ≡ starts_include s.now c.at.0 }
 {
-    let Letters::Yes(end) = text_unquoted::spells_include(s, c) else {
+    let Some(end) = text_unquoted::spells_include(s, c) else {
         return false;
     };
     if text_unquoted::stops_unquoted(s, end) {

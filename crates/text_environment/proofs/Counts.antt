@@ -48,23 +48,23 @@ module _ {s : List ℕ} {at left : ℕ} (C : Counting s at left) where
   unfolding name_from
   count-end h = sym (C.is ∙ rw (drop_of_length-le s h) (rw (le-leb 0 left (omega arith), at_most)))
 
-  module _ {r : Parts} (h : EntryIs s at r) where
-    pub count-broken : r ≡ Parts.Broken → false ≡ is_some (entries 64 s 0)
-    count-broken e = let i : EntryAt s at Parts.Broken = rw e at h.is in sym (C.is ∙ rw i)
+  module _ {r : Maybe Parts} (h : EntryIs s at r) where
+    pub count-broken : r ≡ None → false ≡ is_some (entries 64 s 0)
+    count-broken e = let i : EntryAt s at None = rw e at h.is in sym (C.is ∙ rw i)
 
-    module _ {q z : EnvAt} (e : r ≡ Parts.Whole q z) where
+    module _ {p : Parts} (e : r ≡ Some p) where
       abbrev here : Variable
-      here = entry s (slice at q.0 s) (q.0 + 1) z.0
+      here = entry s (slice at p.equals.0 s) (p.equals.0 + 1) p.zero.0
 
-      i : EntryAt s at (Parts.Whole q z)
+      i : EntryAt s at (Some p)
       i = rw e at h.is
 
       pub count-many : left ≡ 0 → false ≡ is_some (entries 64 s 0)
-      count-many l = sym (C.is ∙ rw (l, i.3) (one-many here (name_from [] (drop (z.0 + 1) s))))
+      count-many l = sym (C.is ∙ rw (l, i.3) (one-many here (name_from [] (drop (p.zero.0 + 1) s))))
 
-      pub count-more : (left ≡ 0 → ⊥) → Counting s (z.0 + 1) (left - 1)
+      pub count-more : (left ≡ 0 → ⊥) → Counting s (p.zero.0 + 1) (left - 1)
       count-more l = record {
-        is = C.is ∙ rw i.3 (one_more left here (name_from [] (drop (z.0 + 1) s)) (omega (arith, l)));
+        is = C.is ∙ rw i.3 (one_more left here (name_from [] (drop (p.zero.0 + 1) s)) (omega (arith, l)));
         to = omega (arith, i.2);
         few = omega (arith, C.few);
       }

@@ -16,7 +16,7 @@ use Rattle.rules.specs.Environment.{with_variable, name_from, text_from}
 use Rattle.text_chars.specs.Cursor.{ByteIs}
 use Rattle.text_environment.specs.Clauses.{env, NameEnd, NameEnds, TextEnd, TextEnds, EntryIs}
 use Rattle.text_chars.specs.declared.EnvAt.{EnvAt}
-use Rattle.text_environment.specs.declared.Stop.{Stop}
+use Rattle.std.specs.Prelude.{Option as Maybe, Some, None}
 use Rattle.text_environment.specs.declared.Parts.{Parts}
 
 -- one byte more before the end of a part
@@ -62,7 +62,7 @@ pub name-start : {s : List ℕ} {at : ℕ} → at < length s → Naming s at at
 name-start {s} {at} h = record { is = rw (slice_empty at s); from = omega arith; to = omega arith }
 
 module _ {s : List ℕ} {at p : ℕ} (N : Naming s at p) where
-  pub name_out : at < length s → length s ≤ p → NameEnds s at Stop.Nowhere
+  pub name_out : at < length s → length s ≤ p → NameEnds s at None
   unfolding name_from
   name_out h k = record { is = N.is ∙ rw (drop_of_length-le s k, slice-cons at p s 256 (omega arith) N.to) }
 
@@ -70,15 +70,15 @@ module _ {s : List ℕ} {at p : ℕ} (N : Naming s at p) where
     here : name_from [] (drop at s) ≡ name_from (slice at p s) (b ∷ drop (suc p) s)
     here = N.is ∙ rw (drop-cons s p 256 k, h.is)
 
-    pub name-zero : b ≡ 0 → NameEnds s at Stop.Nowhere
+    pub name-zero : b ≡ 0 → NameEnds s at None
     name-zero e = record { is = here ∙ zero-named (slice at p s) (drop (suc p) s) e }
 
-    pub name-empty : b ≡ 61 → p ≤ at → NameEnds s at Stop.Nowhere
+    pub name-empty : b ≡ 61 → p ≤ at → NameEnds s at None
     name-empty e l =
         let q : at ≡ p = omega (arith, N.from) in
         record { is = here ∙ rw (q, slice_empty p s) (equals-unnamed (drop (suc p) s) e) }
 
-    pub name-equals : b ≡ 61 → at < p → NameEnds s at (Stop.At (env p))
+    pub name-equals : b ≡ 61 → at < p → NameEnds s at (Some (env p))
     name-equals e l = record {
       is = (l, k, here ∙ rw (slice-cons at p s 256 l N.to, add-one) (equals-named _ _ (drop (suc p) s) e));
     }
@@ -100,7 +100,7 @@ pub text-start : {s : List ℕ} {at : ℕ} → at ≤ length s → Texting s at 
 text-start {s} {at} h = record { is = λ n. rw (slice_empty at s); from = omega arith; to = omega arith }
 
 module _ {s : List ℕ} {at p : ℕ} (T : Texting s at p) where
-  pub text_out : length s ≤ p → TextEnds s at Stop.Nowhere
+  pub text_out : length s ≤ p → TextEnds s at None
   unfolding name_from
   text_out k = record { is = λ n. T.is n ∙ rw (drop_of_length-le s k) }
 
@@ -108,7 +108,7 @@ module _ {s : List ℕ} {at p : ℕ} (T : Texting s at p) where
     there : (n : Text) → text_from n [] (drop at s) ≡ text_from n (slice at p s) (b ∷ drop (suc p) s)
     there n = T.is n ∙ rw (drop-cons s p 256 k, h.is)
 
-    pub text-zero : b ≡ 0 → TextEnds s at (Stop.At (env p))
+    pub text-zero : b ≡ 0 → TextEnds s at (Some (env p))
     text-zero e = record { is = (T.from, k, λ n. there n ∙ rw add-one (zero_ended (slice at p s) (drop (suc p) s) n e)) }
 
     pub text-more : (b ≡ 0 → ⊥) → Texting s at (p + 1)
@@ -119,26 +119,26 @@ module _ {s : List ℕ} {at p : ℕ} (T : Texting s at p) where
     }
 
 -- the entry, of its two ends
-module _ {s : List ℕ} {at : ℕ} {r : Stop} (h : NameEnds s at r) where
-  pub entry-unnamed : r ≡ Stop.Nowhere → EntryIs s at Parts.Broken
+module _ {s : List ℕ} {at : ℕ} {r : Maybe EnvAt} (h : NameEnds s at r) where
+  pub entry-unnamed : r ≡ None → EntryIs s at None
   entry-unnamed e = record { is = rw e at h.is }
 
-  pub text-near : {q : EnvAt} → r ≡ Stop.At q → q.0 + 1 ≤ length s
-  text-near {q} e = let i : NameEnd s at (Stop.At q) = rw e at h.is in omega arith
+  pub text-near : {q : EnvAt} → r ≡ Some q → q.0 + 1 ≤ length s
+  text-near {q} e = let i : NameEnd s at (Some q) = rw e at h.is in omega arith
 
-  pub text-fits : {q : EnvAt} → r ≡ Stop.At q → length s ≤ max_environment → Fits w64 (q.0 + 1)
+  pub text-fits : {q : EnvAt} → r ≡ Some q → length s ≤ max_environment → Fits w64 (q.0 + 1)
   text-fits e l = record { fits = omega (arith, text-near e) }
 
-  module _ {q : EnvAt} (e : r ≡ Stop.At q) {t : Stop} (k : TextEnds s (q.0 + 1) t) where
-    i : NameEnd s at (Stop.At q)
+  module _ {q : EnvAt} (e : r ≡ Some q) {t : Maybe EnvAt} (k : TextEnds s (q.0 + 1) t) where
+    i : NameEnd s at (Some q)
     i = rw e at h.is
 
-    pub entry-unended : t ≡ Stop.Nowhere → EntryIs s at Parts.Broken
-    entry-unended f = let j : TextEnd s (q.0 + 1) Stop.Nowhere = rw f at k.is in record { is = i.2 ∙ j (slice at q.0 s) }
+    pub entry-unended : t ≡ None → EntryIs s at None
+    entry-unended f = let j : TextEnd s (q.0 + 1) None = rw f at k.is in record { is = i.2 ∙ j (slice at q.0 s) }
 
-    pub entry_whole : {z : EnvAt} → t ≡ Stop.At z → EntryIs s at (Parts.Whole q z)
+    pub entry_whole : {z : EnvAt} → t ≡ Some z → EntryIs s at (Some (record { equals = q; zero = z }))
     entry_whole {z} f =
-        let j : TextEnd s (q.0 + 1) (Stop.At z) = rw f at k.is in
+        let j : TextEnd s (q.0 + 1) (Some z) = rw f at k.is in
         record { is = (i.0, omega (arith, j.0), j.1, i.2 ∙ j.2 (slice at q.0 s)) }
 
 pub ruleset names = (name-start, name_out, name-zero, name-empty, name-equals, name-more)

@@ -1,5 +1,5 @@
 -- What the answers say, for the callers: of an environment that is by its rule, and of an entry.
-use Rattle.std.specs.Prelude.{◌≡◌, refl, ℕ, ◌+◌, ◌-◌, ◌≤◌, ◌<◌, Bool, true, false, List, [], leb, length}
+use Rattle.std.specs.Prelude.{◌≡◌, refl, ℕ, ◌+◌, ◌-◌, ◌≤◌, ◌<◌, Bool, true, false, List, [], leb, length, Option as Maybe, Some}
 use Rattle.std.proofs.Common.{sym, ◌∙◌, arith, Fits, leb-true}
 use Rattle.std.proofs.Math.Option.{Option, none, some}
 use Rattle.std.specs.Int.{w64}
@@ -8,7 +8,6 @@ use Rattle.rules.specs.Utf8.{ill_formed}
 use Rattle.rules.specs.Environment.{Variable, name_from, at_most, entries_of}
 use Rattle.text_chars.specs.Clash.{clash}
 use Rattle.text_environment.specs.Clauses.{is_some, EntryAt, EntryIs}
-use Rattle.text_chars.specs.declared.EnvAt.{EnvAt}
 use Rattle.text_environment.specs.declared.Parts.{Parts}
 
 -- ---- an environment that is by its rule, or not
@@ -53,29 +52,29 @@ accepted-is s es e = long (leb (length s) max_environment) refl e
 
 -- ---- an entry's places, in order
 
-module _ {s : List ℕ} {at : ℕ} {r : Parts} (h : EntryIs s at r) {q z : EnvAt} (e : r ≡ Parts.Whole q z) where
-  ordered : (at < q.0) × (q.0 < z.0) × (z.0 < length s)
-  ordered = let i : EntryAt s at (Parts.Whole q z) = rw e at h.is in (i.0, i.1, i.2)
+module _ {s : List ℕ} {at : ℕ} {r : Maybe Parts} (h : EntryIs s at r) {p : Parts} (e : r ≡ Some p) where
+  ordered : (at < p.equals.0) × (p.equals.0 < p.zero.0) × (p.zero.0 < length s)
+  ordered = let i : EntryAt s at (Some p) = rw e at h.is in (i.0, i.1, i.2)
 
-  pub name-from : at ≤ q.0
+  pub name-from : at ≤ p.equals.0
   name-from = omega (arith, ordered.0)
 
-  pub name-inside : q.0 ≤ length s
+  pub name-inside : p.equals.0 ≤ length s
   name-inside = omega (arith, ordered.1, ordered.2)
 
-  pub equals-fits : length s ≤ max_environment → Fits w64 (q.0 + 1)
+  pub equals-fits : length s ≤ max_environment → Fits w64 (p.equals.0 + 1)
   equals-fits l = record { fits = omega (arith, name-inside) }
 
-  pub zero-fits : length s ≤ max_environment → Fits w64 (z.0 + 1)
+  pub zero-fits : length s ≤ max_environment → Fits w64 (p.zero.0 + 1)
   zero-fits l = record { fits = omega (arith, ordered.2) }
 
-  pub equals-zero : q.0 ≤ z.0
+  pub equals-zero : p.equals.0 ≤ p.zero.0
   equals-zero = omega (arith, ordered.1)
 
-  pub equals-before : 1 ≤ z.0 - q.0
+  pub equals-before : 1 ≤ p.zero.0 - p.equals.0
   equals-before = omega (arith, ordered.1)
 
-  pub zero-less : length s - (z.0 + 1) < length s - at
+  pub zero-less : length s - (p.zero.0 + 1) < length s - at
   zero-less = omega (arith, ordered)
 
 pub ruleset places = (arith, name-from, name-inside, equals-fits, zero-fits, equals-zero, equals-before, zero-less)

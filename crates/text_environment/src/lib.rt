@@ -11,79 +11,55 @@ ghost use Rattle.text_environment.specs.Clauses.{is_some, entries, NameEnds, Tex
 use codes::{bytes, limits};
 use text_chars::{EnvAt, env_byte, ill_formed};
 
-// Where a name or a text ends.
+/// The places of an entry's `=` and of its zero byte.
 #[derive(Clone, Copy)]
-enum Stop {
-    // at its `=` or its zero byte
-    At(EnvAt),
-    // it is against the rule
-    Nowhere,
+pub struct Parts {
+    pub equals: EnvAt,
+    pub zero: EnvAt,
 }
 
-/// The entry at a place.
-#[derive(Clone, Copy)]
-pub enum Parts {
-    // the places of its `=` and its zero byte
-    Whole { equals: EnvAt, zero: EnvAt },
-    // it is against the rule
-    Broken,
-}
-
-// The `=` behind the name at a place.
-fn name_end(env: &[u8], at: EnvAt) -> Stop
+// The `=` behind the name at a place; none where the name is against the rule.
+fn name_end(env: &[u8], at: EnvAt) -> Option<EnvAt>
     requires { (length env.now ≤ max_environment) × (at.0 < length env.now) }
     ensures { NameEnds env.now at.0 result }
 {
-    let start = at.0;
-    let mut p = start;
-    while p < env.len() {
+    for p in at.0..env.len() {
         let b = env_byte(env, EnvAt(p));
         if b == bytes::NUL {
-            return Stop::Nowhere;
+            return None;
         }
         if b == bytes::EQUALS {
-            if start < p {
-                return Stop::At(EnvAt(p));
+            if at.0 < p {
+                return Some(EnvAt(p));
             }
             // The name is empty.
-            return Stop::Nowhere;
+            return None;
         }
-        p += 1;
     }
-    Stop::Nowhere
+    None
 }
 
-// The zero byte behind the text at a place.
-fn text_end(env: &[u8], at: EnvAt) -> Stop
+// The zero byte behind the text at a place; none where the text has no end.
+fn text_end(env: &[u8], at: EnvAt) -> Option<EnvAt>
     requires { (length env.now ≤ max_environment) × (at.0 ≤ length env.now) }
     ensures { TextEnds env.now at.0 result }
 {
-    let start = at.0;
-    let mut p = start;
-    while p < env.len() {
+    for p in at.0..env.len() {
         if env_byte(env, EnvAt(p)) == bytes::NUL {
-            return Stop::At(EnvAt(p));
+            return Some(EnvAt(p));
         }
-        p += 1;
     }
-    Stop::Nowhere
+    None
 }
 
-/// The entry at a place.
-pub fn entry_at(env: &[u8], at: EnvAt) -> Parts
+/// The entry at a place; none where it is against the rule.
+pub fn entry_at(env: &[u8], at: EnvAt) -> Option<Parts>
     requires { (length env.now ≤ max_environment) × (at.0 < length env.now) }
     ensures { EntryIs env.now at.0 result }
 {
-    match name_end(env, at) {
-        Stop::Nowhere => Parts::Broken,
-        Stop::At(equals) => {
-            let e = equals.0;
-            match text_end(env, EnvAt(e + 1)) {
-                Stop::Nowhere => Parts::Broken,
-                Stop::At(zero) => Parts::Whole { equals, zero },
-            }
-        }
-    }
+    let equals = name_end(env, at)?;
+    let zero = text_end(env, EnvAt(equals.0 + 1))?;
+    Some(Parts { equals, zero })
 }
 
 // Whether the bytes are entries, not too many.
@@ -94,19 +70,14 @@ fn are_entries(env: &[u8]) -> bool
     let mut at = 0;
     let mut left: usize = limits::VARIABLES;
     while at < env.len() {
-        match entry_at(env, EnvAt(at)) {
-            Parts::Broken => {
-                return false;
-            }
-            Parts::Whole { equals, zero } => {
-                if left == 0 {
-                    return false;
-                }
-                let z = zero.0;
-                at = z + 1;
-                left -= 1;
-            }
+        let Some(entry) = entry_at(env, EnvAt(at)) else {
+            return false;
+        };
+        if left == 0 {
+            return false;
         }
+        at = entry.zero.0 + 1;
+        left -= 1;
     }
     true
 }

@@ -13,39 +13,38 @@ use Rattle.text_chars.specs.Clash.{clash}
 use Rattle.text_chars.specs.Cursor.{ill_at}
 use Rattle.text_chars.specs.declared.Cursor.{Cursor}
 use Rattle.text_chars.specs.declared.DocAt.{DocAt}
-use Rattle.std.specs.Prelude.{Some, None, Option as Maybe}
+use Rattle.std.specs.Prelude.{Some, None, Option as Maybe, Result, Ok, Err, is_some}
 use Rattle.text_scan.specs.Scan.{EndIs}
 use Rattle.text_lengths.specs.Decimals.Contracts.{decimal_in, DecimalIs, unit_as, UnitIs}
 use Rattle.text_lengths.specs.declared.decimals.Decimal.{Decimal}
-use Rattle.text_lengths.specs.declared.decimals.Start.{Start}
-use Rattle.text_lengths.specs.declared.decimals.UnitRead.{UnitRead}
 use Rattle.text_lengths.specs.Micrometres.Contracts.{MeasuredIs}
-use Rattle.text_lengths.specs.declared.micrometres.Measured.{Measured}
+use Rattle.text_chars.specs.Cursor.{doc, refusal}
+use Rattle.text_chars.specs.declared.Refusal.{Refusal}
 
 -- ---- behind the number
 
-unit-none : (o : Option ℕ) → UnitRead.Missing ≡ unit_as o → o ≡ none
+unit-none : (o : Option ℕ) → None ≡ unit_as o → o ≡ none
 unit-none none e = refl
 unit-none (some n) e = clash (cc)
 
-unit-some : (o : Option ℕ) (n : ℕ) → UnitRead.Micrometres n ≡ unit_as o → o ≡ some n
+unit-some : (o : Option ℕ) (n : ℕ) → Some n ≡ unit_as o → o ≡ some n
 unit-some none n e = clash (cc)
 unit-some (some m) n e = cc
 
-pub unit-short : {o : Option ℕ} {u : UnitRead} {n : ℕ} → UnitIs o u → u ≡ UnitRead.Micrometres n → n ≤ inch
+pub unit-short : {o : Option ℕ} {u : Maybe ℕ} {n : ℕ} → UnitIs o u → u ≡ Some n → n ≤ inch
 unit-short h e = rw e at h.short
 
 module _ (s : List ℕ) (string : Bool) (d : Decimal) where
-  pub rest-bare : d.end.0 ≡ length s → MeasuredIs (with_rest string s (decimal_in s d)) (Measured.Refused 21)
+  pub rest-bare : d.end.0 ≡ length s → {z : Refusal} → z ≡ refusal 21 (doc 0) → MeasuredIs (with_rest string s (decimal_in s d)) (Err z)
   unfolding with_rest no_length
-  rest-bare e = record { is = rw (eq-eqb d.end.0 (length s) e, with_rest); numbered = omega arith }
+  rest-bare e z = rw z (record { is = rw (eq-eqb d.end.0 (length s) e, with_rest); numbered = (omega arith, refl) })
 
   module _ (more : d.end.0 ≡ length s → ⊥) where
-    pub rest-number : string ≡ false → MeasuredIs (with_rest string s (decimal_in s d)) (Measured.Refused 20)
+    pub rest-number : string ≡ false → {z : Refusal} → z ≡ refusal 20 (doc 0) → MeasuredIs (with_rest string s (decimal_in s d)) (Err z)
     unfolding with_rest no_length
-    rest-number f = record { is = rw (ne_eqb d.end.0 (length s) more, f, with_rest); numbered = omega arith }
+    rest-number f z = rw z (record { is = rw (ne_eqb d.end.0 (length s) more, f, with_rest); numbered = (omega arith, refl) })
 
-    module _ (f : string ≡ true) {c : Cursor} (k : EndIs s d.end.0 (after_space s d.end.0) c) {u : UnitRead}
+    module _ (f : string ≡ true) {c : Cursor} (k : EndIs s d.end.0 (after_space s d.end.0) c) {u : Maybe ℕ}
         (h : UnitIs (unit_at s c.at.0) u) where
       with-unit : (o : Option ℕ) → unit_at s c.at.0 ≡ o → with_rest string s (decimal_in s d) ≡ with_unit (decimal_in s d) o
       unfolding with_rest
@@ -53,19 +52,19 @@ module _ (s : List ℕ) (string : Bool) (d : Decimal) where
           let z : unit_at s (after_space s d.end.0) ≡ o = ap (unit_at s) (sym k.is) ∙ e in
           rw (ne_eqb d.end.0 (length s) more, f, z, with_rest)
 
-      pub rest-missing : u ≡ UnitRead.Missing → MeasuredIs (with_rest string s (decimal_in s d)) (Measured.Refused 20)
+      pub rest-missing : u ≡ None → {z : Refusal} → z ≡ refusal 20 (doc 0) → MeasuredIs (with_rest string s (decimal_in s d)) (Err z)
       unfolding with_unit no_length
-      rest-missing e = record { is = sym (with-unit none (unit-none _ (sym e ∙ h.is))); numbered = omega arith }
+      rest-missing e z = rw z (record { is = sym (with-unit none (unit-none _ (sym e ∙ h.is))); numbered = (omega arith, refl) })
 
-      module _ {unit : ℕ} (e : u ≡ UnitRead.Micrometres unit) where
+      module _ {unit : ℕ} (e : u ≡ Some unit) where
         has-unit : with_rest string s (decimal_in s d) ≡ with_unit (decimal_in s d) (some unit)
         has-unit = with-unit (some unit) (unit-some _ unit (sym e ∙ h.is))
 
-        pub rest-minus : d.minus ≡ true → MeasuredIs (with_rest string s (decimal_in s d)) (Measured.Refused 22)
+        pub rest-minus : d.minus ≡ true → {z : Refusal} → z ≡ refusal 22 (doc 0) → MeasuredIs (with_rest string s (decimal_in s d)) (Err z)
         unfolding with_unit no_length
-        rest-minus m = record { is = sym (has-unit ∙ rw (m, with_unit)); numbered = omega arith }
+        rest-minus m z = rw z (record { is = sym (has-unit ∙ rw (m, with_unit)); numbered = (omega arith, refl) })
 
-        pub rest-length : (r : Measured) → d.minus ≡ false → MeasuredIs (in_micrometres unit (decimal_in s d)) r
+        pub rest-length : (r : Result ℕ Refusal) → d.minus ≡ false → MeasuredIs (in_micrometres unit (decimal_in s d)) r
             → MeasuredIs (with_rest string s (decimal_in s d)) r
         unfolding with_unit
         rest-length r m i = record { is = i.is ∙ sym (has-unit ∙ rw (m, with_unit)); numbered = i.numbered }
@@ -76,37 +75,42 @@ pub ruleset rests = (rest-bare, rest-number, rest-missing, rest-minus, rest-leng
 
 -- ---- the whole text
 
-ill-some : (o : Option ℕ) (place : DocAt) → Some place ≡ ill_at o → (p : ℕ) × (o ≡ some p)
-ill-some none place e = clash (cc)
-ill-some (some p) place e = (p, refl)
+ill-some : (o : Option ℕ) → is_some (ill_at o) ≡ true → (p : ℕ) × (o ≡ some p)
+ill-some none e = clash (cc)
+ill-some (some p) e = (p, refl)
 
-ill-none : (o : Option ℕ) → None ≡ ill_at o → o ≡ none
+ill-none : (o : Option ℕ) → is_some (ill_at o) ≡ false → o ≡ none
 ill-none none e = refl
 ill-none (some p) e = clash (cc)
 
-module _ (s : List ℕ) (string : Bool) {i : Maybe DocAt} (g : i ≡ ill_at (ill_formed s)) where
-  pub length-ill : {place : DocAt} → i ≡ Some place → MeasuredIs (length_of string s) (Measured.Refused 20)
+module _ (s : List ℕ) (string : Bool) {i : Maybe DocAt} (g : i ≡ ill_at (ill_formed s)) {f : Bool} (h : f ≡ is_some i) where
+  pub length-ill : f ≡ true → {z : Refusal} → z ≡ refusal 20 (doc 0) → MeasuredIs (length_of string s) (Err z)
   unfolding length_of no_length
-  length-ill {place} e = let (p, z) = ill-some (ill_formed s) place (sym e ∙ g) in record { is = rw (z, length_of); numbered = omega arith }
+  length-ill e z =
+      let (p, o) = ill-some (ill_formed s) (sym (h ∙ ap is_some g) ∙ e) in
+      rw z (record { is = rw (o, length_of); numbered = (omega arith, refl) })
 
-  module _ (w : i ≡ None) {r : Start} (k : DecimalIs s r) where
+  module _ (w : f ≡ false) {r : Maybe Decimal} (k : DecimalIs s r) where
     well : ill_formed s ≡ none
-    well = ill-none (ill_formed s) (sym w ∙ g)
+    well = ill-none (ill_formed s) (sym (h ∙ ap is_some g) ∙ w)
 
-    pub length-other : r ≡ Start.Other → MeasuredIs (length_of string s) (Measured.Refused 20)
+    pub length-other : r ≡ None → {z : Refusal} → z ≡ refusal 20 (doc 0) → MeasuredIs (length_of string s) (Err z)
     unfolding length_of no_length
-    length-other e = let z : none ≡ decimal_of s = rw e at k.is in record { is = rw (well, sym z, length_of); numbered = omega arith }
+    length-other e z =
+        let o : none ≡ decimal_of s = rw e at k.is in
+        rw z (record { is = rw (well, sym o, length_of); numbered = (omega arith, refl) })
 
-    pub length-number : {d : Decimal} (m : Measured) → r ≡ Start.Number d → MeasuredIs (with_rest string s (decimal_in s d)) m
+    pub length-number : {d : Decimal} (m : Result ℕ Refusal) → r ≡ Some d → MeasuredIs (with_rest string s (decimal_in s d)) m
         → MeasuredIs (length_of string s) m
     unfolding length_of
-    length-number {d} m e h = let z : some (decimal_in s d) ≡ decimal_of s = rw e at k.is in
-        record { is = h.is ∙ sym (rw (well, sym z, length_of)); numbered = h.numbered }
+    length-number {d} m e q =
+        let z : some (decimal_in s d) ≡ decimal_of s = rw e at k.is in
+        record { is = q.is ∙ sym (rw (well, sym z, length_of)); numbered = q.numbered }
 
-pub placed-order : {s : List ℕ} {r : Start} {d : Decimal} → DecimalIs s r → r ≡ Start.Number d → d.point.0 ≤ d.end.0
+pub placed-order : {s : List ℕ} {r : Maybe Decimal} {d : Decimal} → DecimalIs s r → r ≡ Some d → d.point.0 ≤ d.end.0
 placed-order k e = let p = rw e at k.placed in p.0
 
-pub placed-inside : (s : List ℕ) {r : Start} {d : Decimal} → DecimalIs s r → r ≡ Start.Number d → d.end.0 ≤ length s
+pub placed-inside : (s : List ℕ) {r : Maybe Decimal} {d : Decimal} → DecimalIs s r → r ≡ Some d → d.end.0 ≤ length s
 placed-inside s k e = let p = rw e at k.placed in p.1
 
 pub ruleset texts = (length-ill, length-other, length-number)

@@ -7,8 +7,7 @@ ghost use Rattle.text_scan.specs.Scan.{EndIs};
 ghost use Rattle.text_lengths.specs.Decimals.Contracts.{DecimalFrom, DecimalIs, UnitIs};
 
 use codes::{bytes, letters, units};
-use text_chars::{Cursor, DocAt, byte_at};
-use text_numbers::Number;
+use text_chars::{Cursor, DocAt, Step, byte_at};
 use text_scan::look;
 
 /// A decimal number: whether it has a minus, and the places of its first digit, after its digits before the dot, and after it. A length's
@@ -21,55 +20,28 @@ pub struct Decimal {
     pub end: DocAt,
 }
 
-/// Whether a text begins with a number.
-#[derive(Clone, Copy)]
-pub enum Start {
-    /// It does.
-    Number(Decimal),
-    /// It does not.
-    Other,
-}
-
-/// The unit at a text's end.
-#[derive(Clone, Copy)]
-pub enum UnitRead {
-    /// One of so many micrometres.
-    Micrometres(u32),
-    /// None.
-    Missing,
-}
-
 // The number whose first digit is to stand here.
-fn decimal_from(s: &[u8], minus: bool, first: Cursor) -> Start
+fn decimal_from(s: &[u8], minus: bool, first: Cursor) -> Option<Decimal>
     requires { (length s.now ≤ max_document) × (first.at.0 ≤ length s.now) }
     ensures { DecimalFrom s.now minus first.at.0 result }
 {
-    match text_numbers::after_int(s, first) {
-        Number::Missing => Start::Other,
-        Number::End(point) => {
-            let end = text_numbers::after_fraction(s, point);
-            let a = first.at;
-            let p = point.at;
-            let e = end.at;
-            Start::Number(Decimal {
-                minus,
-                first: a,
-                point: p,
-                end: e,
-            })
-        }
-    }
+    let point = text_numbers::after_int(s, first)?;
+    let end = text_numbers::after_fraction(s, point);
+    Some(Decimal {
+        minus,
+        first: first.at,
+        point: point.at,
+        end: end.at,
+    })
 }
 
-/// The number that a text begins with.
-pub fn decimal_of(s: &[u8]) -> Start
+/// The number that a text begins with, if it does.
+pub fn decimal_of(s: &[u8]) -> Option<Decimal>
     requires { length s.now ≤ max_document }
     ensures { DecimalIs s.now result }
 {
-    let here = look(s, Cursor { at: DocAt(0) });
-    let ch = here.ch;
+    let Step { ch, next } = look(s, Cursor { at: DocAt(0) });
     if ch == bytes::MINUS {
-        let next = here.next;
         return decimal_from(s, true, next);
     }
     decimal_from(s, false, Cursor { at: DocAt(0) })
@@ -83,50 +55,47 @@ pub fn after_space(s: &[u8], c: Cursor) -> Cursor
     let mut p = c;
     loop {
         let here = look(s, p);
-        let ch = here.ch;
-        if text_scan::is_space(ch) {
-            let next = here.next;
-            p = next;
+        if text_scan::is_space(here.ch) {
+            p = here.next;
         } else {
             return p;
         }
     }
 }
 
-// The unit of two letters.
-fn unit_of(first: u32, second: u32) -> UnitRead
+// The micrometres of the unit of two letters.
+fn unit_of(first: u32, second: u32) -> Option<u32>
     ensures { UnitIs (unit_of first second) result }
 {
     if first == letters::M {
         if second == letters::M {
-            return UnitRead::Micrometres(units::MILLIMETRE);
+            return Some(units::MILLIMETRE);
         }
-        return UnitRead::Missing;
+        return None;
     }
     if first == letters::U {
         if second == letters::M {
-            return UnitRead::Micrometres(units::MICROMETRE);
+            return Some(units::MICROMETRE);
         }
-        return UnitRead::Missing;
+        return None;
     }
     if first == letters::I {
         if second == letters::N {
-            return UnitRead::Micrometres(units::INCH);
+            return Some(units::INCH);
         }
-        return UnitRead::Missing;
+        return None;
     }
-    UnitRead::Missing
+    None
 }
 
-/// The unit with which a text ends, from a place on.
-pub fn unit_at(s: &[u8], c: Cursor) -> UnitRead
+/// The micrometres of the unit with which a text ends, from a place on.
+pub fn unit_at(s: &[u8], c: Cursor) -> Option<u32>
     requires { (length s.now ≤ max_document) × (c.at.0 ≤ length s.now) }
     ensures { UnitIs (unit_at s.now c.at.0) result }
 {
-    let d = c.at;
-    let at = d.0;
+    let at = c.at.0;
     if s.len() == at + 2 {
-        return unit_of(byte_at(s, d), byte_at(s, DocAt(at + 1)));
+        return unit_of(byte_at(s, c.at), byte_at(s, DocAt(at + 1)));
     }
-    UnitRead::Missing
+    None
 }

@@ -3,29 +3,22 @@
 ghost use Rattle.std.specs.Prelude.{◌≡◌, ◌-◌, ◌≤◌, min, length};
 ghost use Rattle.rules.specs.Sizes.{max_document};
 ghost use Rattle.rules.specs.Micrometres.{inch, in_micrometres};
+ghost use Rattle.text_chars.specs.Cursor.{doc, refusal};
 ghost use Rattle.text_lengths.specs.Decimals.Contracts.{decimal_in};
 ghost use Rattle.text_lengths.specs.Micrometres.Contracts.{too_many, DigitsTo, WholeIs, FractionIs, MeasuredIs};
 
 use crate::decimals::Decimal;
 use codes::{bytes, refusals, units};
-use text_chars::{DocAt, byte_at};
+use text_chars::{DocAt, Refusal, byte_at};
 
-/// A length, or why there is none.
-#[derive(Clone, Copy)]
-pub enum Measured {
-    /// So many micrometres.
-    Micrometres(u32),
-    /// A refusal's number; its place is 0.
-    Refused { number: u8 },
-}
-
-/// What the digits behind the dot come to.
-#[derive(Clone, Copy)]
-pub enum Fraction {
-    /// So many micrometres, and nothing left over.
-    Micrometres(u32),
-    /// Not whole micrometres.
-    Broken,
+/// Why there is no length. Its text stands in no document, so the place is 0.
+pub fn no_length(number: u8) -> Refusal
+    ensures { result ≡ refusal number (doc 0) }
+{
+    Refusal {
+        number,
+        place: DocAt(0),
+    }
 }
 
 // What a digit counts.
@@ -54,55 +47,43 @@ pub fn whole_part(s: &[u8], from: DocAt, to: DocAt, unit: u32) -> u32
     requires { DigitsTo s.now to.0 unit }
     ensures { WholeIs s.now from.0 to.0 unit result }
 {
-    let end = to.0;
-    let mut at = from.0;
     let mut sum = 0u32;
-    while at < end {
+    for at in from.0..to.0 {
         sum = capped(sum * 10 + digit_of(byte_at(s, DocAt(at))) * unit);
-        at += 1;
     }
     sum
 }
 
-// The micrometres of the digits behind the dot, from the last one on: each is its own with what is behind it, divided by ten. If one of
-// these is not whole, none before it is, and so not the sum.
-fn fraction_part(s: &[u8], from: DocAt, to: DocAt, unit: u32) -> Fraction
+// The micrometres of the digits behind the dot, if nothing is left over. From the last digit on: each is its own with what is behind it,
+// divided by ten. If one of these is not whole, none before it is, and so not the sum.
+fn fraction_part(s: &[u8], from: DocAt, to: DocAt, unit: u32) -> Option<u32>
     requires { DigitsTo s.now to.0 unit }
     ensures { FractionIs s.now from.0 to.0 unit result }
 {
-    let start = from.0;
     let mut at = to.0;
     let mut rest = 0u32;
-    while start < at {
+    while from.0 < at {
         at -= 1;
         let tenfold = digit_of(byte_at(s, DocAt(at))) * unit + rest;
         if 0 < tenfold % 10 {
-            return Fraction::Broken;
+            return None;
         }
         rest = tenfold / 10;
     }
-    Fraction::Micrometres(rest)
+    Some(rest)
 }
 
 /// The micrometres of a number with this unit.
-pub fn in_micrometres(s: &[u8], unit: u32, d: Decimal) -> Measured
+pub fn in_micrometres(s: &[u8], unit: u32, d: Decimal) -> Result<u32, Refusal>
     requires { (length s.now ≤ max_document) × (d.point.0 ≤ d.end.0) × (d.end.0 ≤ length s.now) × (unit ≤ inch) }
     ensures { MeasuredIs (in_micrometres unit (decimal_in s.now d)) result }
 {
-    let point = d.point;
-    let p = point.0;
-    match fraction_part(s, DocAt(p + 1), d.end, unit) {
-        Fraction::Broken => Measured::Refused {
-            number: refusals::NOT_WHOLE_MICROMETRES,
-        },
-        Fraction::Micrometres(rest) => {
-            let sum = whole_part(s, d.first, point, unit) + rest;
-            if units::MOST_MICROMETRES < sum {
-                return Measured::Refused {
-                    number: refusals::TOO_LONG,
-                };
-            }
-            Measured::Micrometres(sum)
-        }
+    let Some(rest) = fraction_part(s, DocAt(d.point.0 + 1), d.end, unit) else {
+        return Err(no_length(refusals::NOT_WHOLE_MICROMETRES));
+    };
+    let sum = whole_part(s, d.first, d.point, unit) + rest;
+    if units::MOST_MICROMETRES < sum {
+        return Err(no_length(refusals::TOO_LONG));
     }
+    Ok(sum)
 }

@@ -14,7 +14,8 @@ use Rattle.text_chars.specs.declared.Cursor.{Cursor}
 use Rattle.text_scan.specs.Scan.{SeenIs, EndIs}
 use Rattle.text_numbers.specs.Clauses.{is_sign, is_exponent, after_unsigned, NumberMoved, NumberIs}
 use Rattle.text_chars.specs.declared.Step.{Step}
-use Rattle.text_numbers.specs.declared.Number.{Number}
+use Rattle.std.specs.Prelude.{Option as Maybe, Some, None}
+use Rattle.text_chars.specs.declared.Cursor.{Cursor}
 use Rattle.text_scan.specs.Looks.{Ascii, passes-low, byte-test, is_byte, not_byte, ascii-next}
 use Rattle.text_scan.specs.Walks.{digit-ascii}
 
@@ -62,7 +63,7 @@ module _ {s : List ℕ} {at : ℕ} {r : Step} (k : SeenIs s at r) (t : ℕ → B
 -- ---- int
 
 module _ {s : List ℕ} {at : ℕ} {r : Step} (k : SeenIs s at r) where
-  pub int-zero : r.ch ≡ 48 → NumberIs s at (after_int s at) (Number.End r.next)
+  pub int-zero : r.ch ≡ 48 → NumberIs s at (after_int s at) (Some r.next)
   unfolding after_int
   int-zero e =
       let n : r.next.at.0 ≡ at + 1 = ascii-next k (omega arith) in
@@ -70,7 +71,7 @@ module _ {s : List ℕ} {at : ℕ} {r : Step} (k : SeenIs s at r) where
 
   module _ (z : r.ch ≡ 48 → ⊥) {f : Bool} (i : f ≡ is_digit r.ch) where
     pub int-digits : {e : Cursor} → f ≡ true → EndIs s r.next.at.0 (after_digits s r.next.at.0) e
-        → NumberIs s at (after_int s at) (Number.End e)
+        → NumberIs s at (after_int s at) (Some e)
     unfolding after_int
     int-digits {e} h d =
         let n : r.next.at.0 ≡ at + 1 = one k is_digit digit-ascii i h in
@@ -81,7 +82,7 @@ module _ {s : List ℕ} {at : ℕ} {r : Step} (k : SeenIs s at r) where
           moved = (omega arith, d.inside);
         }
 
-    pub int-missing : f ≡ false → NumberIs s at (after_int s at) Number.Missing
+    pub int-missing : f ≡ false → NumberIs s at (after_int s at) None
     unfolding after_int
     int-missing h = record {
       is = rw (not_byte k 48 (omega arith) z, says k is_digit digit-ascii i h, after_int);
@@ -167,14 +168,14 @@ pub ruleset exponent-ends = (exponent-none, exponent-digits, exponent-bare)
 
 -- ---- the whole number
 
-module _ {s : List ℕ} {at : ℕ} {r : Number} (k : NumberIs s at (after_int s at) r) where
-  pub unsigned-missing : r ≡ Number.Missing → NumberIs s at (after_unsigned s at) Number.Missing
+module _ {s : List ℕ} {at : ℕ} {r : Maybe Cursor} (k : NumberIs s at (after_int s at) r) where
+  pub unsigned-missing : r ≡ None → NumberIs s at (after_unsigned s at) None
   unfolding after_unsigned
   unsigned-missing e =
       let o : none ≡ after_int s at = rw e at k.is in
       record { is = rw (sym o, after_unsigned); moved = tt }
 
-  module _ {c : Cursor} (e : r ≡ Number.End c) where
+  module _ {c : Cursor} (e : r ≡ Some c) where
     int-moved : (at < c.at.0) × (c.at.0 ≤ length s)
     int-moved = rw e at k.moved
 
@@ -182,7 +183,7 @@ module _ {s : List ℕ} {at : ℕ} {r : Number} (k : NumberIs s at (after_int s 
     int-inside = int-moved.1
 
     pub unsigned-end : {p d : Cursor} → EndIs s c.at.0 (after_fraction s c.at.0) p
-        → EndIs s p.at.0 (after_exponent s p.at.0) d → NumberIs s at (after_unsigned s at) (Number.End d)
+        → EndIs s p.at.0 (after_exponent s p.at.0) d → NumberIs s at (after_unsigned s at) (Some d)
     unfolding after_unsigned
     unsigned-end {p} {d} f x =
         let o : some c.at.0 ≡ after_int s at = rw e at k.is in
@@ -191,9 +192,9 @@ module _ {s : List ℕ} {at : ℕ} {r : Number} (k : NumberIs s at (after_int s 
           moved = (omega (arith, int-moved.0), x.inside);
         }
 
-moved_before : (len p q : ℕ) (n : Number) → p ≤ q → NumberMoved len q n → NumberMoved len p n
-moved_before len p q Number.Missing h m = tt
-moved_before len p q (Number.End c) h m = (omega arith, m.1)
+moved_before : (len p q : ℕ) (n : Maybe Cursor) → p ≤ q → NumberMoved len q n → NumberMoved len p n
+moved_before len p q None h m = tt
+moved_before len p q (Some c) h m = (omega arith, m.1)
 
 -- the place after the minus, if there is one
 abbrev start : List ℕ → ℕ → ℕ
@@ -203,7 +204,7 @@ number-start : (s : List ℕ) (at p : ℕ) → start s at ≡ p → after_number
 unfolding after_number after_unsigned
 number-start s at p e = ap (after_unsigned s) e
 
-module _ {s : List ℕ} {at : ℕ} {r : Step} (k : SeenIs s at r) {n : Number} where
+module _ {s : List ℕ} {at : ℕ} {r : Step} (k : SeenIs s at r) {n : Maybe Cursor} where
   pub number-minus : r.ch ≡ 45 → NumberIs s r.next.at.0 (after_unsigned s r.next.at.0) n → NumberIs s at (after_number s at) n
   number-minus e m =
       let b : start s at ≡ at + 1 = rw (is_byte k 45 (omega arith) e, start) in

@@ -9,17 +9,8 @@ ghost use Rattle.text_scan.specs.Scan.{EndIs};
 ghost use Rattle.text_numbers.specs.Clauses.{is_sign, is_exponent, after_unsigned, NumberIs};
 
 use codes::{bytes, letters};
-use text_chars::Cursor;
+use text_chars::{Cursor, Step};
 use text_scan::look;
-
-/// Whether a number stands at a place.
-#[derive(Clone, Copy)]
-pub enum Number {
-    // none
-    Missing,
-    // one, and the place after it
-    End(Cursor),
-}
 
 /// A decimal digit.
 pub fn is_digit(ch: u32) -> bool
@@ -39,10 +30,8 @@ fn after_digits(s: &[u8], c: Cursor) -> Cursor
     let mut p = c;
     loop {
         let here = look(s, p);
-        let ch = here.ch;
-        if is_digit(ch) {
-            let next = here.next;
-            p = next;
+        if is_digit(here.ch) {
+            p = here.next;
         } else {
             return p;
         }
@@ -50,21 +39,18 @@ fn after_digits(s: &[u8], c: Cursor) -> Cursor
 }
 
 /// A zero alone, or digits that start with none.
-pub fn after_int(s: &[u8], c: Cursor) -> Number
+pub fn after_int(s: &[u8], c: Cursor) -> Option<Cursor>
     requires { (length s.now ≤ max_document) × (c.at.0 ≤ length s.now) }
     ensures { NumberIs s.now c.at.0 (after_int s.now c.at.0) result }
 {
-    let here = look(s, c);
-    let ch = here.ch;
-    let next = here.next;
+    let Step { ch, next } = look(s, c);
     if ch == bytes::ZERO {
-        return Number::End(next);
+        return Some(next);
     }
     if is_digit(ch) {
-        let end = after_digits(s, next);
-        return Number::End(end);
+        return Some(after_digits(s, next));
     }
-    Number::Missing
+    None
 }
 
 /// The fraction, if there is one: a dot and at least one digit.
@@ -72,13 +58,9 @@ pub fn after_fraction(s: &[u8], int: Cursor) -> Cursor
     requires { (length s.now ≤ max_document) × (int.at.0 ≤ length s.now) }
     ensures { EndIs s.now int.at.0 (after_fraction s.now int.at.0) result }
 {
-    let here = look(s, int);
-    let ch = here.ch;
+    let Step { ch, next } = look(s, int);
     if ch == bytes::DOT {
-        let next = here.next;
-        let there = look(s, next);
-        let first = there.ch;
-        if is_digit(first) {
+        if is_digit(look(s, next).ch) {
             return after_digits(s, next);
         }
         return int;
@@ -100,10 +82,8 @@ fn after_sign(s: &[u8], c: Cursor) -> Cursor
     requires { (length s.now ≤ max_document) × (c.at.0 ≤ length s.now) }
     ensures { EndIs s.now c.at.0 (after_sign s.now c.at.0) result }
 {
-    let here = look(s, c);
-    let ch = here.ch;
+    let Step { ch, next } = look(s, c);
     if is_sign(ch) {
-        let next = here.next;
         return next;
     }
     c
@@ -123,14 +103,10 @@ fn after_exponent(s: &[u8], c: Cursor) -> Cursor
     requires { (length s.now ≤ max_document) × (c.at.0 ≤ length s.now) }
     ensures { EndIs s.now c.at.0 (after_exponent s.now c.at.0) result }
 {
-    let here = look(s, c);
-    let ch = here.ch;
+    let Step { ch, next } = look(s, c);
     if is_exponent(ch) {
-        let next = here.next;
         let digits = after_sign(s, next);
-        let there = look(s, digits);
-        let first = there.ch;
-        if is_digit(first) {
+        if is_digit(look(s, digits).ch) {
             return after_digits(s, digits);
         }
         return c;
@@ -139,29 +115,22 @@ fn after_exponent(s: &[u8], c: Cursor) -> Cursor
 }
 
 // A number but its minus.
-fn after_unsigned(s: &[u8], c: Cursor) -> Number
+fn after_unsigned(s: &[u8], c: Cursor) -> Option<Cursor>
     requires { (length s.now ≤ max_document) × (c.at.0 ≤ length s.now) }
     ensures { NumberIs s.now c.at.0 (after_unsigned s.now c.at.0) result }
 {
-    match after_int(s, c) {
-        Number::Missing => Number::Missing,
-        Number::End(int) => {
-            let fraction = after_fraction(s, int);
-            let end = after_exponent(s, fraction);
-            Number::End(end)
-        }
-    }
+    let int = after_int(s, c)?;
+    let fraction = after_fraction(s, int);
+    Some(after_exponent(s, fraction))
 }
 
 /// The place after the longest JSON number here.
-pub fn after_number(s: &[u8], c: Cursor) -> Number
+pub fn after_number(s: &[u8], c: Cursor) -> Option<Cursor>
     requires { (length s.now ≤ max_document) × (c.at.0 ≤ length s.now) }
     ensures { NumberIs s.now c.at.0 (after_number s.now c.at.0) result }
 {
-    let here = look(s, c);
-    let ch = here.ch;
+    let Step { ch, next } = look(s, c);
     if ch == bytes::MINUS {
-        let next = here.next;
         return after_unsigned(s, next);
     }
     after_unsigned(s, c)

@@ -29,7 +29,7 @@ use Rattle.text_scan.specs.Scan.{SeenIs, EndIs}
 use Rattle.text_numbers.specs.Clauses.{NumberIs}
 use Rattle.text_unquoted.specs.Clauses.{Says, WordIs}
 use Rattle.text_chars.specs.declared.Step.{Step}
-use Rattle.text_numbers.specs.declared.Number.{Number}
+use Rattle.std.specs.Prelude.{Option as Maybe, Some, None}
 use Rattle.text_unquoted.specs.declared.Word.{Word}
 use Rattle.text_escapes.specs.Clauses.{sized, quoted, Decoded, quoted_of}
 use Rattle.text_escapes.specs.declared.Quoted.{Quoted}
@@ -147,15 +147,15 @@ module _ {s : List ℕ} {at : ℕ} {r : Word} (h : WordIs s at r) where
 
 -- ---- numbers
 
-module _ {s : List ℕ} {at : ℕ} {r : Number} (h : NumberIs s at (after_number s at) r) where
-  pub number-end : {c : Cursor} → r ≡ Number.End c → ScanIs (number_at s at) s at (Ok (Piece.Plain 4 c))
+module _ {s : List ℕ} {at : ℕ} {r : Maybe Cursor} (h : NumberIs s at (after_number s at) r) where
+  pub number-end : {c : Cursor} → r ≡ Some c → ScanIs (number_at s at) s at (Ok (Piece.Plain 4 c))
   unfolding number_at scalar_text
   number-end {c} e =
       let q : after_number s at ≡ some c.at.0 = sym h.is ∙ rw e in
       let z : number_at s at ≡ ok (token false (number (slice at c.at.0 s))) c.at.0 = rw (q, number_at) in
       record { is = rw z; moved = rw e at h.moved; spelt = rw z (λ _. refl); bare = rw z refl }
 
-  pub number-missing : {d : DocAt} → r ≡ Number.Missing → d.0 ≡ at → ScanIs (number_at s at) s at (Err (refusal 5 d))
+  pub number-missing : {d : DocAt} → r ≡ None → d.0 ≡ at → ScanIs (number_at s at) s at (Err (refusal 5 d))
   unfolding number_at
   number-missing {d} e y =
       let q : after_number s at ≡ none = sym h.is ∙ rw e in

@@ -10,7 +10,6 @@ ghost use Rattle.text_pieces.specs.Clauses.{LeadIs, TextAsked, ScanIs, quoted_to
 
 use codes::{bytes, kinds, refusals};
 use text_chars::{Cursor, Refusal, TextLen};
-use text_numbers::Number;
 use text_unquoted::Word;
 
 /// A simple piece that was read, with the cursor past it.
@@ -83,16 +82,16 @@ fn number_piece(s: &[u8], c: Cursor) -> Result<Piece, Refusal>
     requires { (length s.now ≤ max_document) × (c.at.0 ≤ length s.now) }
     ensures { ScanIs (number_at s.now c.at.0) s.now c.at.0 result }
 {
-    match text_numbers::after_number(s, c) {
-        Number::End(next) => Ok(Piece::Plain {
-            kind: kinds::NUMBER,
-            next,
-        }),
-        Number::Missing => Err(Refusal {
+    let Some(next) = text_numbers::after_number(s, c) else {
+        return Err(Refusal {
             number: refusals::BAD_NUMBER_OR_STRING,
             place: c.at,
-        }),
-    }
+        });
+    };
+    Ok(Piece::Plain {
+        kind: kinds::NUMBER,
+        next,
+    })
 }
 
 // A string in quotes.

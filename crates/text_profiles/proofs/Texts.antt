@@ -17,41 +17,40 @@ use Rattle.rules.specs.Micrometres.{no_length, digits_value, length_of}
 use Rattle.theory.specs.Micrometres.{form_numbers, Answered, exactly, refusal, text-answered}
 use Rattle.text_chars.specs.declared.Cursor.{Cursor}
 use Rattle.text_numbers.specs.Clauses.{NumberIs}
-use Rattle.text_numbers.specs.declared.Number.{Number}
+use Rattle.std.specs.Prelude.{Option as Maybe, Some, None, Result, Ok, Err}
 use Rattle.text_lengths.specs.Micrometres.Contracts.{too_many, WholeIs, MeasuredIs}
-use Rattle.text_lengths.specs.declared.micrometres.Measured.{Measured}
+use Rattle.text_chars.specs.declared.Refusal.{Refusal}
 use Rattle.rules_profile.specs.Profile.{thousandth, max_bare, edition_of, step_of, bare_length, written_length}
 use Rattle.text_profiles.specs.Clauses.{max_length, edition_as, LengthIs}
 use Rattle.text_profiles.specs.declared.Edition.{Edition}
-use Rattle.text_profiles.specs.declared.Length.{Length}
 
 -- ---- one of two texts
 
 module _ (s : Text) where
-  pub edition-first : {t : Bool} → t ≡ same s (49 ∷ []) → t ≡ true → edition_as Edition.First ≡ edition_of (some s)
+  pub edition-first : {t : Bool} → t ≡ same s (49 ∷ []) → t ≡ true → edition_as (Some Edition.First) ≡ edition_of (some s)
   unfolding edition_of
   edition-first h e = sym (rw (sym h ∙ e, edition_of))
 
   module _ {t : Bool} (h : t ≡ same s (49 ∷ [])) (e : t ≡ false) {u : Bool} (k : u ≡ same s (50 ∷ [])) where
-    pub edition-second : u ≡ true → edition_as Edition.Second ≡ edition_of (some s)
+    pub edition-second : u ≡ true → edition_as (Some Edition.Second) ≡ edition_of (some s)
     unfolding edition_of
     edition-second f = sym (rw (sym h ∙ e, sym k ∙ f, edition_of))
 
-    pub edition-unnamed : u ≡ false → edition_as Edition.Unnamed ≡ edition_of (some s)
+    pub edition-unnamed : u ≡ false → edition_as None ≡ edition_of (some s)
     unfolding edition_of
     edition-unnamed f = sym (rw (sym h ∙ e, sym k ∙ f, edition_of))
 
   pub step-hundredth : {t : Bool} → t ≡ same s (109 ∷ 109 ∷ []) → t ≡ true
-      → LengthIs (step_of (some s)) thousandth (Length.TenThousandths 100)
+      → LengthIs (step_of (some s)) thousandth (Some 100)
   unfolding step_of
   step-hundredth h e = record { is = sym (rw (sym h ∙ e, step_of)); at_most = omega arith }
 
   module _ {t : Bool} (h : t ≡ same s (109 ∷ 109 ∷ [])) (e : t ≡ false) {u : Bool} (k : u ≡ same s (105 ∷ 110 ∷ [])) where
-    pub step-thousandth : u ≡ true → LengthIs (step_of (some s)) thousandth (Length.TenThousandths 254)
+    pub step-thousandth : u ≡ true → LengthIs (step_of (some s)) thousandth (Some 254)
     unfolding step_of
     step-thousandth f = record { is = sym (rw (sym h ∙ e, sym k ∙ f, step_of)); at_most = omega arith }
 
-    pub step_other : u ≡ false → LengthIs (step_of (some s)) thousandth Length.Missing
+    pub step_other : u ≡ false → LengthIs (step_of (some s)) thousandth None
     unfolding step_of
     step_other f = record { is = sym (rw (sym h ∙ e, sym k ∙ f, step_of)); at_most = tt }
 
@@ -67,16 +66,16 @@ product_small {n} {step} b l = omega (arith, mul-le-mul l b)
 pub product-fits : {n step : ℕ} → step ≤ thousandth → n ≤ max_bare → n * step < 2 ^ 32
 product-fits b l = omega (arith, product_small b l)
 
-module _ (s : Text) (step : ℕ) {r : Number} (k : NumberIs s 0 (after_int s 0) r) where
-  pub bare-other : r ≡ Number.Missing → LengthIs (bare_length step (some s)) max_length Length.Missing
+module _ (s : Text) (step : ℕ) {r : Maybe Cursor} (k : NumberIs s 0 (after_int s 0) r) where
+  pub bare-other : r ≡ None → LengthIs (bare_length step (some s)) max_length None
   unfolding bare_length
   bare-other e = let z : none ≡ after_int s 0 = rw e at k.is in record { is = sym (rw (sym z, bare_length)); at_most = tt }
 
-  module _ {c : Cursor} (e : r ≡ Number.End c) where
+  module _ {c : Cursor} (e : r ≡ Some c) where
     digits-end : after_int s 0 ≡ some c.at.0
     digits-end = let z : some c.at.0 ≡ after_int s 0 = rw e at k.is in sym z
 
-    pub bare-more : (c.at.0 ≡ length s → ⊥) → LengthIs (bare_length step (some s)) max_length Length.Missing
+    pub bare-more : (c.at.0 ≡ length s → ⊥) → LengthIs (bare_length step (some s)) max_length None
     unfolding bare_length
     bare-more h = record { is = sym (rw (digits-end, ne_eqb c.at.0 (length s) h, bare_length)); at_most = tt }
 
@@ -87,7 +86,7 @@ module _ (s : Text) (step : ℕ) {r : Number} (k : NumberIs s 0 (after_int s 0) 
           let once : digits_value s * 1 ≡ digits_value s = omega arith in
           w.is ∙ ap (λ (t : Text). min too_many (digits_value t * 1)) all ∙ ap (λ (v : ℕ). min too_many v) once
 
-      pub bare-long : max_bare < n → LengthIs (bare_length step (some s)) max_length Length.Missing
+      pub bare-long : max_bare < n → LengthIs (bare_length step (some s)) max_length None
       unfolding bare_length
       bare-long l =
           let z = counted in
@@ -97,7 +96,7 @@ module _ (s : Text) (step : ℕ) {r : Number} (k : NumberIs s 0 (after_int s 0) 
             at_most = tt;
           }
 
-      pub bare-counts : step ≤ thousandth → n ≤ max_bare → LengthIs (bare_length step (some s)) max_length (Length.TenThousandths (n * step))
+      pub bare-counts : step ≤ thousandth → n ≤ max_bare → LengthIs (bare_length step (some s)) max_length (Some (n * step))
       unfolding bare_length
       bare-counts b l =
           let z = counted in
@@ -117,8 +116,8 @@ unfolding no_length
 length-small s m (exactly z e) = e.within-limit
 length-small s m (refusal n h q) = rw q (omega arith)
 
-module _ (s : Text) {m : Measured} (k : MeasuredIs (length_of true s) m) where
-  module _ {n : ℕ} (e : m ≡ Measured.Micrometres n) where
+module _ (s : Text) {m : Result ℕ Refusal} (k : MeasuredIs (length_of true s) m) where
+  module _ {n : ℕ} (e : m ≡ Ok n) where
     answered : length_of true s ≡ record { number = 0; micrometres = n }
     answered = let z : record { number = 0; micrometres = n } ≡ length_of true s = rw e at k.is in sym z
 
@@ -130,18 +129,18 @@ module _ (s : Text) {m : Measured} (k : MeasuredIs (length_of true s) m) where
     pub written-fits : n * 10 < 2 ^ 32
     written-fits = omega (arith, micrometres-small)
 
-    pub written-exact : LengthIs (written_length (some s)) max_length (Length.TenThousandths (n * 10))
+    pub written-exact : LengthIs (written_length (some s)) max_length (Some (n * 10))
     unfolding written_length
     written-exact = record {
       is = sym (rw (answered, written_length) (ap (λ (x : lengths.Measured). some (x.micrometres * 10)) answered));
       at_most = omega (arith, micrometres-small);
     }
 
-  pub written-refused : {number : ℕ} → m ≡ Measured.Refused number → LengthIs (written_length (some s)) max_length Length.Missing
+  pub written-refused : {x : Refusal} → m ≡ Err x → LengthIs (written_length (some s)) max_length None
   unfolding written_length
-  written-refused {number} e =
-      let z : record { number = number; micrometres = 0 } ≡ length_of true s = rw e at k.is in
-      let some_number : 1 ≤ number = rw e at k.numbered in
-      record { is = sym (rw (sym z, ne_eqb number 0 (λ f. absurd (omega arith)), written_length)); at_most = tt }
+  written-refused {x} e =
+      let z : record { number = x.number; micrometres = 0 } ≡ length_of true s = rw e at k.is in
+      let numbered : (1 ≤ x.number) × (x.place.0 ≡ 0) = rw e at k.numbered in
+      record { is = sym (rw (sym z, ne_eqb x.number 0 (λ f. absurd (omega arith)), written_length)); at_most = tt }
 
 pub ruleset writtens = (written-exact, written-refused)

@@ -18,7 +18,6 @@ use Rattle.text_chars.specs.declared.Cursor.{Cursor}
 use Rattle.std.specs.Prelude.{Option, Some, None}
 use Rattle.text_chars.specs.declared.Step.{Step}
 use Rattle.text_runs.specs.Clauses.{block_size, stops, Plain, BreaksIs, Passed, none, on, AllPlain, BlockIs, RunIs, OneSays, OneIs}
-use Rattle.text_runs.specs.declared.One.{One}
 
 -- ---- a byte
 
@@ -119,10 +118,10 @@ module _ {least other : ℕ} {s : List ℕ} {at₀ : ℕ} where
     pub run_fits : f ≡ true → length s < 2 ^ 64 → Fits w64 (p + block_size)
     run_fits e l = record { fits = omega (arith, b.fits e) }
 
-  pub run-one : {c d : Cursor} {r : One} → RunIs least other s at₀ c → OneIs least other s c.at.0 r → r ≡ One.Past d
+  pub run-one : {c d : Cursor} {r : Option Cursor} → RunIs least other s at₀ c → OneIs least other s c.at.0 r → r ≡ Some d
       → RunIs least other s at₀ d
   run-one {c} {d} I o e =
-      let z : OneSays least other s c.at.0 (One.Past d) = rw e at o.says in
+      let z : OneSays least other s c.at.0 (Some d) = rw e at o.says in
       record { passed = on I.passed z.0 z.1 z.2; forward = omega (arith, I.forward, z.3); inside = omega (arith, I.inside, I.forward, z.4) }
 
 module _ {least other : ℕ} {s : List ℕ} {at p : ℕ} where
@@ -141,7 +140,7 @@ pub ruleset joining = (arith, run-start, run-one, run_join)
 -- ---- one character
 
 module _ {least other : ℕ} {s : List ℕ} {at : ℕ} where
-  pub one-not : OneIs least other s at One.Not
+  pub one-not : OneIs least other s at None
   one-not = record { says = tt }
 
 module _ (least other : ℕ) (s : List ℕ) (at : ℕ) where
@@ -149,12 +148,12 @@ module _ (least other : ℕ) (s : List ℕ) (at : ℕ) where
     goes : stops least other (byte_at s at) ≡ false
     goes = rw (get_d_any s at 0 256 h) at (sym e ∙ k)
 
-    pub one-ascii : get_or s at 0 < 128 → OneIs least other s at (One.Past (cur (at + 1)))
+    pub one-ascii : get_or s at 0 < 128 → OneIs least other s at (Some (cur (at + 1)))
     one-ascii l =
         let low : byte_at s at < 128 = rw (get_d_any s at 0 256 h) at l in
         record { says = (h, goes, sym (ascii-next s at h low), omega arith, omega arith) }
 
-    pub one-step : {r : Option Step} {t : Step} → StepIs s at r → r ≡ Some t → OneIs least other s at (One.Past t.next)
+    pub one-step : {r : Option Step} {t : Step} → StepIs s at r → r ≡ Some t → OneIs least other s at (Some t.next)
     one-step t i = let z = seen t i in record { says = (h, goes, z.past, z.forward, z.inside) }
 
 pub ruleset ones = (one-not, one-ascii, one-step)

@@ -1,10 +1,9 @@
 -- What the functions that pass over a run of a string's body promise.
-use Rattle.std.specs.Prelude.{◌≡◌, ℕ, ◌+◌, ◌-◌, ◌≤◌, ◌<◌, Bool, true, false, List, ltb, eqb, length}
+use Rattle.std.specs.Prelude.{◌≡◌, ℕ, ◌+◌, ◌-◌, ◌≤◌, ◌<◌, Bool, true, false, List, ltb, eqb, length, Option, Some, None}
 use Rattle.rules.specs.Bytes.{byte_at}
 use Rattle.rules.specs.Ascii as ascii
 use Rattle.rules.specs.Characters.{next_place}
 use Rattle.text_chars.specs.declared.Cursor.{Cursor}
-use Rattle.text_runs.specs.declared.One.{One}
 
 abbrev pub block_size : ℕ
 block_size = 64
@@ -45,12 +44,12 @@ pub record RunIs (least other : ℕ) (s : List ℕ) (at : ℕ) (r : Cursor) : Ty
   pub forward : at ≤ r.at.0
   pub inside : r.at.0 - at ≤ length s - at
 
-abbrev pub OneSays : (least other : ℕ) (s : List ℕ) (at : ℕ) → One → Type 0
-OneSays least other s at (One.Past c) =
+abbrev pub OneSays : (least other : ℕ) (s : List ℕ) (at : ℕ) → Option Cursor → Type 0
+OneSays least other s at (Some c) =
     (at < length s) × (stops least other (byte_at s at) ≡ false) × (c.at.0 ≡ next_place s at) × (at < c.at.0) × (c.at.0 ≤ length s)
-OneSays least other s at One.Not = Unit {0}
+OneSays least other s at None = Unit {0}
 
-pub record OneIs (least other : ℕ) (s : List ℕ) (at : ℕ) (r : One) : Type 0 where
+pub record OneIs (least other : ℕ) (s : List ℕ) (at : ℕ) (r : Option Cursor) : Type 0 where
   pub says : OneSays least other s at r
 
 -- in a quoted string

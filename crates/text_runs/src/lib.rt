@@ -9,7 +9,7 @@ ghost use Rattle.rules.specs.Sizes.{max_document};
 ghost use Rattle.text_runs.specs.Clauses.{stops, BreaksIs, BlockIs, RunIs, OneIs, PlainIs, RawRunIs};
 
 use codes::bytes;
-use text_chars::{Cursor, DocAt, Step};
+use text_chars::{Cursor, DocAt};
 
 // The bytes of a block: its tests have no way out of the loop, so that the compiler makes them all at once.
 const BLOCK: usize = 64;
@@ -71,44 +71,31 @@ fn plain_block(s: &[u8], at: usize, least: u8, other: u8) -> bool
 fn blocks_end(s: &[u8], c: Cursor, least: u8, other: u8) -> Cursor
     ensures { RunIs least other s.now c.at.0 result }
 {
-    let from = c.at;
-    let mut p = from.0;
+    let mut p = c.at.0;
     while plain_block(s, p, least, other) {
         p += BLOCK;
     }
     Cursor { at: DocAt(p) }
 }
 
-// The character at a cursor, if a run goes over it.
-#[derive(Clone, Copy)]
-enum One {
-    // it does, and this is the cursor past it
-    Past(Cursor),
-    // a byte that ends the run, or the end
-    Not,
-}
-
-fn pass_one(s: &[u8], c: Cursor, least: u8, other: u8) -> One
+// The cursor past the character at a cursor, if a run goes over it.
+fn pass_one(s: &[u8], c: Cursor, least: u8, other: u8) -> Option<Cursor>
     requires { length s.now ≤ max_document }
     ensures { OneIs least other s.now c.at.0 result }
 {
-    let from = c.at;
-    let p = from.0;
-    if p < s.len() {
-        let b = s[p];
-        if stops_run(b, least, other) {
-            return One::Not;
-        }
-        if b < NOT_ASCII {
-            return One::Past(Cursor { at: DocAt(p + 1) });
-        }
-        let Some(Step { ch, next }) = c.step(s) else {
-            return One::Not;
-        };
-        One::Past(next)
-    } else {
-        One::Not
+    let p = c.at.0;
+    if s.len() <= p {
+        return None;
     }
+    let b = s[p];
+    if stops_run(b, least, other) {
+        return None;
+    }
+    if b < NOT_ASCII {
+        return Some(Cursor { at: DocAt(p + 1) });
+    }
+    let step = c.step(s)?;
+    Some(step.next)
 }
 
 // A run from a cursor on: as many single characters as a block has bytes, so that short runs try no block; then blocks. It may go on
@@ -118,17 +105,11 @@ fn run_end(s: &[u8], c: Cursor, least: u8, other: u8) -> Cursor
     ensures { RunIs least other s.now c.at.0 result }
 {
     let mut at = c;
-    let mut i = 0;
-    while i < BLOCK {
-        match pass_one(s, at, least, other) {
-            One::Not => {
-                return at;
-            }
-            One::Past(next) => {
-                at = next;
-            }
-        }
-        i += 1;
+    for _ in 0..BLOCK {
+        let Some(next) = pass_one(s, at, least, other) else {
+            return at;
+        };
+        at = next;
     }
     blocks_end(s, at, least, other)
 }

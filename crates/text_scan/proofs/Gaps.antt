@@ -15,8 +15,8 @@ use Rattle.text_chars.specs.Cursor.{cur}
 use Rattle.text_chars.specs.declared.Cursor.{Cursor}
 use Rattle.text_scan.specs.Scan.{SeenIs, EndIs, BlanksIs, rest, Passes, PassedIs, GapIs}
 use Rattle.text_chars.specs.declared.Step.{Step}
+use Rattle.std.specs.Prelude.{Option, Some, None}
 use Rattle.text_scan.specs.declared.Gap.{Gap}
-use Rattle.text_scan.specs.declared.Passed.{Passed}
 use Rattle.text_scan.specs.Looks.{get_d_any, byte_next, visible, byte-eqb, is_byte, not_byte, ascii-next}
 
 -- ---- the start of a comment
@@ -76,7 +76,7 @@ or-false false = refl
 
 module _ {s : List ℕ} {g : Gap} {r : Step} (k : SeenIs s g.next.at.0 r) where
   space-on : is_space (character_at s g.next.at.0) ≡ true → {b : Bool} → (g.newline || is_newline (character_at s g.next.at.0)) ≡ b
-      → PassedIs s g (Passed.On (record { next = r.next; newline = b }))
+      → PassedIs s g (Some (record { next = r.next; newline = b }))
   space-on e {b} j =
       let m = space-moves s g.next.at.0 e in
       record {
@@ -89,13 +89,13 @@ module _ {s : List ℕ} {g : Gap} {r : Step} (k : SeenIs s g.next.at.0 r) where
         );
       }
 
-  pub pass-newline : r.ch ≡ 10 → PassedIs s g (Passed.On (record { next = r.next; newline = true }))
+  pub pass-newline : r.ch ≡ 10 → PassedIs s g (Some (record { next = r.next; newline = true }))
   pass-newline e =
       let c : character_at s g.next.at.0 ≡ 10 = sym k.is ∙ e in
       space-on (rw c) (rw c (or-true g.newline))
 
   -- no gap begins with a visible ASCII character past the slash
-  pub pass-visible : 47 < r.ch → r.ch < 128 → PassedIs s g Passed.Done
+  pub pass-visible : 47 < r.ch → r.ch < 128 → PassedIs s g None
   pass-visible l h = record {
     is =
         gap_ends s (length s) g.next.at.0 g.newline (rw (← k.is) (visible r.ch (omega arith) h))
@@ -104,15 +104,15 @@ module _ {s : List ℕ} {g : Gap} {r : Step} (k : SeenIs s g.next.at.0 r) where
 
   module _ {f : Bool} (i : f ≡ is_space r.ch) where
     pub pass-space : {c : Cursor} → BlanksIs s r.next.at.0 c → (r.ch ≡ 10 → ⊥) → f ≡ true
-        → PassedIs s g (Passed.On (record { next = c; newline = g.newline }))
+        → PassedIs s g (Some (record { next = c; newline = g.newline }))
     pass-space b n e =
         let l : (g.newline || is_newline (character_at s g.next.at.0)) ≡ g.newline = rw (← k.is, ne_eqb r.ch 10 n) (or-false g.newline) in
-        let m : Passes s g (Passed.On (record { next = r.next; newline = g.newline })) = (space-on (rw (← k.is) (sym i ∙ e)) l).is in
+        let m : Passes s g (Some (record { next = r.next; newline = g.newline })) = (space-on (rw (← k.is) (sym i ∙ e)) l).is in
         record { is = (m.0 ∙ b.still g.newline, omega (arith, m.1, b.forward), b.inside) }
 
     module _ {t : Bool} (j : t ≡ starts_comment s g.next.at.0) where
       pub pass-comment : {e : Cursor} → f ≡ false → t ≡ true → EndIs s g.next.at.0 (line_end s g.next.at.0) e
-          → PassedIs s g (Passed.On (record { next = e; newline = g.newline }))
+          → PassedIs s g (Some (record { next = e; newline = g.newline }))
       pass-comment z u h = record {
         is = (
           gap-comment s (length s) g.next.at.0 g.newline (omega arith) (rw (← k.is) (sym i ∙ z)) (sym j ∙ u)
@@ -122,7 +122,7 @@ module _ {s : List ℕ} {g : Gap} {r : Step} (k : SeenIs s g.next.at.0 r) where
         );
       }
 
-      pub pass-done : f ≡ false → t ≡ false → PassedIs s g Passed.Done
+      pub pass-done : f ≡ false → t ≡ false → PassedIs s g None
       pass-done z u = record {
         is = gap_ends s (length s) g.next.at.0 g.newline (rw (← k.is) (sym i ∙ z)) (sym j ∙ u);
       }
@@ -158,8 +158,8 @@ pub gap-start : {s : List ℕ} {c : Cursor} → c.at.0 ≤ length s → Widening
 unfolding gap_at
 gap-start h = record { still = refl; forward = omega arith; inside = h }
 
-module _ {s : List ℕ} {g : Gap} {r : Passed} (k : PassedIs s g r) where
-  module _ {h : Gap} (e : r ≡ Passed.On h) where
+module _ {s : List ℕ} {g : Gap} {r : Option Gap} (k : PassedIs s g r) where
+  module _ {h : Gap} (e : r ≡ Some h) where
     went : (rest s g ≡ rest s h) × (g.next.at.0 < h.next.at.0) × (h.next.at.0 ≤ length s)
     went = rw e at k.is
 
@@ -169,7 +169,7 @@ module _ {s : List ℕ} {g : Gap} {r : Passed} (k : PassedIs s g r) where
     pub gap-less : length s - h.next.at.0 < length s - g.next.at.0
     gap-less = omega (arith, went.1, went.2)
 
-  pub gap-done : {at : ℕ} → Widening s at g → r ≡ Passed.Done → GapIs s at g
+  pub gap-done : {at : ℕ} → Widening s at g → r ≡ None → GapIs s at g
   gap-done {at} w e =
       let j : record { place = g.next.at.0; newline = g.newline } ≡ gap_at s at = sym (rw e at k.is) ∙ w.still in
       record { is = ap (λ z. z.place) j; newline = ap (λ z. z.newline) j; forward = w.forward; inside = w.inside }

@@ -1,11 +1,10 @@
 -- What the functions on whitespace, comments and gaps promise, by the rules' definitions.
-use Rattle.std.specs.Prelude.{◌≡◌, ℕ, ◌+◌, ◌≤◌, ◌<◌, Bool, true, List, length}
+use Rattle.std.specs.Prelude.{◌≡◌, ℕ, ◌+◌, ◌≤◌, ◌<◌, Bool, true, List, length, Option, Some, None}
 use Rattle.rules.specs.Bytes.{byte_at}
 use Rattle.rules.specs.Characters as ch
 use Rattle.text_chars.specs.declared.Cursor.{Cursor}
 use Rattle.text_chars.specs.declared.Step.{Step}
 use Rattle.text_scan.specs.declared.Gap.{Gap}
-use Rattle.text_scan.specs.declared.Passed.{Passed}
 
 -- the character at a place and the place after it
 pub record SeenIs (s : List ℕ) (at : ℕ) (r : Step) : Type 0 where
@@ -55,11 +54,11 @@ abbrev pub rest : List ℕ → Gap → ch.Gap
 rest s g = ch.gap_from (length s) s g.next.at.0 g.newline
 
 -- a gap goes on from where it has come to, or ends there
-abbrev pub Passes : List ℕ → Gap → Passed → Type 0
-Passes s g (Passed.On h) = (rest s g ≡ rest s h) × (g.next.at.0 < h.next.at.0) × (h.next.at.0 ≤ length s)
-Passes s g Passed.Done = rest s g ≡ record { place = g.next.at.0; newline = g.newline }
+abbrev pub Passes : List ℕ → Gap → Option Gap → Type 0
+Passes s g (Some h) = (rest s g ≡ rest s h) × (g.next.at.0 < h.next.at.0) × (h.next.at.0 ≤ length s)
+Passes s g None = rest s g ≡ record { place = g.next.at.0; newline = g.newline }
 
-pub record PassedIs (s : List ℕ) (g : Gap) (r : Passed) : Type 0 where
+pub record PassedIs (s : List ℕ) (g : Gap) (r : Option Gap) : Type 0 where
   pub is : Passes s g r
 
 pub record GapIs (s : List ℕ) (at : ℕ) (r : Gap) : Type 0 where

@@ -99,10 +99,8 @@ pub fn after_inline(s: &[u8], c: Cursor) -> Cursor
     let mut p = c;
     loop {
         let here = look(s, p);
-        let ch = here.ch;
-        if is_inline(ch) {
-            let next = here.next;
-            p = next;
+        if is_inline(here.ch) {
+            p = here.next;
         } else {
             return p;
         }
@@ -115,15 +113,11 @@ pub fn starts_comment(s: &[u8], c: Cursor) -> bool
     ensures { result ≡ starts_comment s.now c.at.0 }
 {
     let here = look(s, c);
-    let ch = here.ch;
-    if ch == bytes::HASH {
+    if here.ch == bytes::HASH {
         return true;
     }
-    if ch == bytes::SLASH {
-        let next = here.next;
-        let there = look(s, next);
-        let second = there.ch;
-        return second == bytes::SLASH;
+    if here.ch == bytes::SLASH {
+        return look(s, here.next).ch == bytes::SLASH;
     }
     false
 }
@@ -172,8 +166,7 @@ fn line_blocks(s: &[u8], c: Cursor) -> Cursor
     requires { c.at.0 ≤ length s.now }
     ensures { Going line_end s.now c.at.0 result }
 {
-    let from = c.at;
-    let mut p = from.0;
+    let mut p = c.at.0;
     while line_block(s, p) {
         p += BLOCK;
     }
@@ -185,9 +178,7 @@ fn line_run(s: &[u8], c: Cursor) -> Cursor
     requires { c.at.0 ≤ length s.now }
     ensures { Going line_end s.now c.at.0 result }
 {
-    let blocks = line_blocks(s, c);
-    let from = blocks.at;
-    let mut p = from.0;
+    let mut p = line_blocks(s, c).at.0;
     while p < s.len() {
         if breaks(s[p]) == 0 {
             p += 1;
@@ -207,15 +198,13 @@ fn line_end(s: &[u8], c: Cursor) -> Cursor
     loop {
         let run = line_run(s, p);
         let here = look(s, run);
-        let ch = here.ch;
-        if ch == bytes::NEWLINE {
+        if here.ch == bytes::NEWLINE {
             return run;
         }
-        if ch == bytes::NO_CHARACTER {
+        if here.ch == bytes::NO_CHARACTER {
             return run;
         }
-        let next = here.next;
-        p = next;
+        p = here.next;
     }
 }
 
@@ -226,15 +215,6 @@ pub struct Gap {
     pub newline: bool,
 }
 
-// Whether a gap goes on.
-#[derive(Clone, Copy)]
-enum Passed {
-    // the gap with some characters of whitespace or one comment more
-    On(Gap),
-    // neither stands here
-    Done,
-}
-
 const BLANK: u8 = bytes::SPACE as u8;
 
 // The place after the blanks.
@@ -242,8 +222,7 @@ fn after_blanks(s: &[u8], c: Cursor) -> Cursor
     requires { c.at.0 ≤ length s.now }
     ensures { BlanksIs s.now c.at.0 result }
 {
-    let from = c.at;
-    let mut p = from.0;
+    let mut p = c.at.0;
     while p < s.len() {
         if s[p] == BLANK {
             p += 1;
@@ -254,36 +233,37 @@ fn after_blanks(s: &[u8], c: Cursor) -> Cursor
     Cursor { at: DocAt(p) }
 }
 
-// One character of whitespace with the blanks behind it, or one comment. What most members begin with is decided first.
-fn pass(s: &[u8], g: Gap) -> Passed
+// The gap with one character of whitespace and the blanks behind it, or with one comment more; none where neither stands. What most
+// members begin with is decided first.
+fn pass(s: &[u8], g: Gap) -> Option<Gap>
     requires { (length s.now ≤ max_document) × (g.next.at.0 ≤ length s.now) }
     ensures { PassedIs s.now g result }
 {
-    let at = g.next;
-    let newline = g.newline;
-    let here = look(s, at);
-    let ch = here.ch;
-    let next = here.next;
+    let Step { ch, next } = look(s, g.next);
     if ch > bytes::SLASH {
         if ch < bytes::NOT_ASCII {
-            return Passed::Done;
+            return None;
         }
     }
     if ch == bytes::NEWLINE {
-        return Passed::On(Gap {
+        return Some(Gap {
             next,
             newline: true,
         });
     }
     if is_space(ch) {
-        let end = after_blanks(s, next);
-        return Passed::On(Gap { next: end, newline });
+        return Some(Gap {
+            next: after_blanks(s, next),
+            ..g
+        });
     }
-    if starts_comment(s, at) {
-        let end = line_end(s, at);
-        return Passed::On(Gap { next: end, newline });
+    if starts_comment(s, g.next) {
+        return Some(Gap {
+            next: line_end(s, g.next),
+            ..g
+        });
     }
-    Passed::Done
+    None
 }
 
 /// The gap from a place on: whitespace, newlines and comments.
@@ -295,14 +275,8 @@ pub fn gap_at(s: &[u8], c: Cursor) -> Gap
         next: c,
         newline: false,
     };
-    loop {
-        match pass(s, g) {
-            Passed::On(more) => {
-                g = more;
-            }
-            Passed::Done => {
-                return g;
-            }
-        }
+    while let Some(more) = pass(s, g) {
+        g = more;
     }
+    g
 }

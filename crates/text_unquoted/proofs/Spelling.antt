@@ -12,11 +12,11 @@ use borrow.Author.Tests.{ltb-true, ltb-false, ne_eqb}
 use Rattle.rules.specs.Bytes.{Text, byte_at, same}
 use Rattle.theory_text.specs.Places.{byte_past}
 use Rattle.rules.specs.Pieces.{word_true, word_false, word_null, starts_with}
+use Rattle.std.specs.Prelude.{Option, Some, None}
 use Rattle.text_chars.specs.declared.Cursor.{Cursor}
 use Rattle.text_scan.specs.Scan.{SeenIs}
 use Rattle.text_unquoted.specs.Clauses.{Spells, SpelledIs, spelled-inside, WordIs}
 use Rattle.text_chars.specs.declared.Step.{Step}
-use Rattle.text_unquoted.specs.declared.Letters.{Letters}
 use Rattle.text_unquoted.specs.declared.Word.{Word}
 use Rattle.text_scan.specs.Looks.{is_byte, not_byte, ascii-next}
 
@@ -85,28 +85,28 @@ module _ (s : List ℕ) (at : ℕ) where
 -- ---- letters
 
 module _ {s : List ℕ} {at : ℕ} {r : Step} (k : SeenIs s at r) {a : ℕ} (l : a < 128) where
-  pub letter-yes : r.ch ≡ a → SpelledIs (a ∷ []) s at (Letters.Yes r.next)
+  pub letter-yes : r.ch ≡ a → SpelledIs (a ∷ []) s at (Some r.next)
   letter-yes e = record { is = (starts-one s at a l ∙ is_byte k a l e, ascii-next k (omega arith), k.inside) }
 
-  pub letter-no : (r.ch ≡ a → ⊥) → SpelledIs (a ∷ []) s at Letters.No
+  pub letter-no : (r.ch ≡ a → ⊥) → SpelledIs (a ∷ []) s at None
   letter-no n = record { is = starts-one s at a l ∙ not_byte k a l n }
 
-module _ {s : List ℕ} {at a : ℕ} {r : Letters} (k : SpelledIs (a ∷ []) s at r) {w : Text} where
-  pub first-no : r ≡ Letters.No → SpelledIs (a ∷ w) s at Letters.No
+module _ {s : List ℕ} {at a : ℕ} {r : Option Cursor} (k : SpelledIs (a ∷ []) s at r) {w : Text} where
+  pub first-no : r ≡ None → SpelledIs (a ∷ w) s at None
   first-no e =
       let n : starts_with (a ∷ []) s at ≡ false = rw e at k.is in
       record { is = starts-cons s at a w ∙ rw n }
 
-  pub first-yes : {c : Cursor} {q : Letters} → r ≡ Letters.Yes c → SpelledIs w s c.at.0 q → SpelledIs (a ∷ w) s at q
+  pub first-yes : {c : Cursor} {q : Option Cursor} → r ≡ Some c → SpelledIs w s c.at.0 q → SpelledIs (a ∷ w) s at q
   first-yes {c} {q} e h =
-      let y : Spells (a ∷ []) s at (Letters.Yes c) = rw e at k.is in
+      let y : Spells (a ∷ []) s at (Some c) = rw e at k.is in
       record { is = go q h.is y }
     where
-      go : (q : Letters) → Spells w s c.at.0 q → Spells (a ∷ []) s at (Letters.Yes c) → Spells (a ∷ w) s at q
-      go (Letters.Yes d) g y =
+      go : (q : Option Cursor) → Spells w s c.at.0 q → Spells (a ∷ []) s at (Some c) → Spells (a ∷ w) s at q
+      go (Some d) g y =
           let j : starts_with w s (at + 1) ≡ true = rw y.1 at g.0 in
           (starts-cons s at a w ∙ rw (y.0, j), omega (arith, y.1, g.1), g.2)
-      go Letters.No g y =
+      go None g y =
           let j : starts_with w s (at + 1) ≡ false = rw y.1 at g in
           starts-cons s at a w ∙ rw (y.0, j)
 
@@ -130,29 +130,29 @@ module _ {s : List ℕ} {at : ℕ} {r : Step} (k : SeenIs s at r) where
   not_null : (r.ch ≡ 110 → ⊥) → starts_with word_null s at ≡ false
   not_null n = other-letter 110 _ (omega arith) n
 
-  module _ {t : Letters} (j : SpelledIs word_true s at t) where
-    pub word-true : {c : Cursor} → t ≡ Letters.Yes c → WordIs s at (Word.True c)
+  module _ {t : Option Cursor} (j : SpelledIs word_true s at t) where
+    pub word-true : {c : Cursor} → t ≡ Some c → WordIs s at (Word.True c)
     word-true e = record { is = rw e at j.is }
 
-    pub no_true : r.ch ≡ 116 → t ≡ Letters.No → WordIs s at Word.Other
+    pub no_true : r.ch ≡ 116 → t ≡ None → WordIs s at Word.Other
     no_true h e = record { is = (rw e at j.is, not-false (λ z. omega arith), not_null (λ z. omega arith)) }
 
-  module _ {t : Letters} (j : SpelledIs word_false s at t) (h : r.ch ≡ 102) where
-    pub word-false : {c : Cursor} → t ≡ Letters.Yes c → WordIs s at (Word.False c)
+  module _ {t : Option Cursor} (j : SpelledIs word_false s at t) (h : r.ch ≡ 102) where
+    pub word-false : {c : Cursor} → t ≡ Some c → WordIs s at (Word.False c)
     word-false {c} e =
-        let y : Spells word_false s at (Letters.Yes c) = rw e at j.is in
+        let y : Spells word_false s at (Some c) = rw e at j.is in
         record { is = (not-true (λ z. omega arith), y.0, y.1, y.2) }
 
-    pub no_false : t ≡ Letters.No → WordIs s at Word.Other
+    pub no_false : t ≡ None → WordIs s at Word.Other
     no_false e = record { is = (not-true (λ z. omega arith), rw e at j.is, not_null (λ z. omega arith)) }
 
-  module _ {t : Letters} (j : SpelledIs word_null s at t) (h : r.ch ≡ 110) where
-    pub word-null : {c : Cursor} → t ≡ Letters.Yes c → WordIs s at (Word.Null c)
+  module _ {t : Option Cursor} (j : SpelledIs word_null s at t) (h : r.ch ≡ 110) where
+    pub word-null : {c : Cursor} → t ≡ Some c → WordIs s at (Word.Null c)
     word-null {c} e =
-        let y : Spells word_null s at (Letters.Yes c) = rw e at j.is in
+        let y : Spells word_null s at (Some c) = rw e at j.is in
         record { is = (not-true (λ z. omega arith), not-false (λ z. omega arith), y.0, y.1, y.2) }
 
-    pub no-null : t ≡ Letters.No → WordIs s at Word.Other
+    pub no-null : t ≡ None → WordIs s at Word.Other
     no-null e = record { is = (not-true (λ z. omega arith), not-false (λ z. omega arith), rw e at j.is) }
 
   pub word-other : (r.ch ≡ 116 → ⊥) → (r.ch ≡ 102 → ⊥) → (r.ch ≡ 110 → ⊥) → WordIs s at Word.Other

@@ -222,15 +222,10 @@ module _ {s : List ℕ} {at : ℕ} {r : Step} (k : SeenIs s at r) where
   unfolding starts_simple
   simple-quote e = rw (is_byte k 34 (omega arith) e, starts_simple)
 
-  module _ (n : r.ch ≡ 34 → ⊥) {f : Bool} (i : f ≡ stops_unquoted s at) where
-    pub simple-stops : f ≡ true → false ≡ starts_simple s at
-    unfolding starts_simple
-    simple-stops h = rw (not_byte k 34 (omega arith) n, starts_simple) (ap not (sym h ∙ i))
-
-    pub simple-goes : f ≡ false → true ≡ starts_simple s at
-    unfolding starts_simple
-    simple-goes h = rw (not_byte k 34 (omega arith) n, starts_simple) (ap not (sym h ∙ i))
+  pub simple-text : (r.ch ≡ 34 → ⊥) → {f : Bool} → f ≡ stops_unquoted s at → not f ≡ starts_simple s at
+  unfolding starts_simple
+  simple-text n i = rw (not_byte k 34 (omega arith) n, starts_simple) (ap not i)
 
 pub ruleset stops = (stops-plain, stops_end, stops-space, stops-forbidden, stops-comment)
 
-pub ruleset simples = (simple-quote, simple-stops, simple-goes)
+pub ruleset simples = (simple-quote, simple-text)

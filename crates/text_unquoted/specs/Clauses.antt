@@ -1,11 +1,10 @@
 -- What the functions on unquoted text and words promise, by the rules' definitions.
-use Rattle.std.specs.Prelude.{◌≡◌, ℕ, ◌+◌, ◌≤◌, ◌<◌, Bool, true, false, List, length}
+use Rattle.std.specs.Prelude.{◌≡◌, ℕ, ◌+◌, ◌≤◌, ◌<◌, Bool, true, false, List, length, Option, Some, None}
 use Rattle.answers.specs.Ask.{mem}
 use Rattle.rules.specs.Bytes.{Text}
 use Rattle.rules.specs.Characters.{is_space}
 use Rattle.rules.specs.Pieces.{forbidden, word_true, word_false, word_null, starts_with}
 use Rattle.text_chars.specs.declared.Cursor.{Cursor}
-use Rattle.text_unquoted.specs.declared.Letters.{Letters}
 use Rattle.text_unquoted.specs.declared.Word.{Word}
 
 -- an ASCII byte at which unquoted text does not stop, whatever stands behind it
@@ -19,15 +18,15 @@ pub record PlainIs (b : ℕ) (r : Bool) : Type 0 where
   pub plain : r ≡ true → Plain b
 
 -- letters stand at a place, with the cursor past them, or they do not
-abbrev pub Spells : Text → List ℕ → ℕ → Letters → Type 0
-Spells w s at (Letters.Yes c) = (starts_with w s at ≡ true) × (c.at.0 ≡ at + length w) × (c.at.0 ≤ length s)
-Spells w s at Letters.No = starts_with w s at ≡ false
+abbrev pub Spells : Text → List ℕ → ℕ → Option Cursor → Type 0
+Spells w s at (Some c) = (starts_with w s at ≡ true) × (c.at.0 ≡ at + length w) × (c.at.0 ≤ length s)
+Spells w s at None = starts_with w s at ≡ false
 
-pub record SpelledIs (w : Text) (s : List ℕ) (at : ℕ) (r : Letters) : Type 0 where
+pub record SpelledIs (w : Text) (s : List ℕ) (at : ℕ) (r : Option Cursor) : Type 0 where
   pub is : Spells w s at r
 
-pub spelled-inside : {w : Text} {s : List ℕ} {at : ℕ} {r : Letters} {c : Cursor} → SpelledIs w s at r → r ≡ Letters.Yes c → c.at.0 ≤ length s
-spelled-inside {w} {s} {at} {r} {c} k e = let y : Spells w s at (Letters.Yes c) = rw e at k.is in y.2
+pub spelled-inside : {w : Text} {s : List ℕ} {at : ℕ} {r : Option Cursor} {c : Cursor} → SpelledIs w s at r → r ≡ Some c → c.at.0 ≤ length s
+spelled-inside {w} {s} {at} {r} {c} k e = let y : Spells w s at (Some c) = rw e at k.is in y.2
 
 -- the first of the words that stands at a place, in the order of the rules
 abbrev pub Says : List ℕ → ℕ → Word → Type 0

@@ -12,7 +12,7 @@ ghost use Rattle.text_scan.specs.Walks.{Going};
 ghost use Rattle.text_unquoted.specs.Clauses.{PlainIs, SpelledIs, WordIs};
 
 use codes::{bytes, letters};
-use text_chars::{Cursor, DocAt};
+use text_chars::{Cursor, DocAt, Step};
 use text_scan::{is_space, look, starts_comment};
 
 // A character that unquoted text cannot have.
@@ -61,15 +61,13 @@ pub fn stops_unquoted(s: &[u8], c: Cursor) -> bool
     requires { (length s.now ≤ max_document) × (c.at.0 ≤ length s.now) }
     ensures { result ≡ stops_unquoted s.now c.at.0 }
 {
-    let at = c.at;
-    let p = at.0;
+    let p = c.at.0;
     if p < s.len() {
         if is_plain(s[p]) {
             return false;
         }
     }
-    let here = look(s, c);
-    let ch = here.ch;
+    let ch = look(s, c).ch;
     if ch == bytes::NO_CHARACTER {
         return true;
     }
@@ -87,8 +85,7 @@ fn plain_run(s: &[u8], c: Cursor) -> Cursor
     requires { c.at.0 ≤ length s.now }
     ensures { Going unquoted_end s.now c.at.0 result }
 {
-    let from = c.at;
-    let mut p = from.0;
+    let mut p = c.at.0;
     while p < s.len() {
         if is_plain(s[p]) {
             p += 1;
@@ -110,9 +107,7 @@ pub fn unquoted_end(s: &[u8], c: Cursor) -> Cursor
         if stops_unquoted(s, run) {
             return run;
         }
-        let here = look(s, run);
-        let next = here.next;
-        p = next;
+        p = look(s, run).next;
     }
 }
 
@@ -121,79 +116,51 @@ pub fn starts_simple(s: &[u8], c: Cursor) -> bool
     requires { (length s.now ≤ max_document) × (c.at.0 ≤ length s.now) }
     ensures { result ≡ starts_simple s.now c.at.0 }
 {
-    let here = look(s, c);
-    let ch = here.ch;
-    if ch == bytes::QUOTE {
+    if look(s, c).ch == bytes::QUOTE {
         return true;
     }
-    if stops_unquoted(s, c) {
-        return false;
-    }
-    true
+    !stops_unquoted(s, c)
 }
 
-/// Whether certain letters stand here.
-#[derive(Clone, Copy)]
-pub enum Letters {
-    // they do, and this is the place after them
-    Yes(Cursor),
-    // they do not
-    No,
-}
+// ---- certain letters: the place after them, if they stand here
 
-fn letter(s: &[u8], c: Cursor, a: u32) -> Letters
+fn letter(s: &[u8], c: Cursor, a: u32) -> Option<Cursor>
     requires { (length s.now ≤ max_document) × (c.at.0 ≤ length s.now) × (a < 128) }
     ensures { SpelledIs (a ∷ []) s.now c.at.0 result }
 {
-    let here = look(s, c);
-    let ch = here.ch;
+    let Step { ch, next } = look(s, c);
     if ch == a {
-        let next = here.next;
-        return Letters::Yes(next);
+        return Some(next);
     }
-    Letters::No
+    None
 }
 
-fn four(s: &[u8], c: Cursor, a: u32, b: u32, d: u32, e: u32) -> Letters
+fn four(s: &[u8], c: Cursor, a: u32, b: u32, d: u32, e: u32) -> Option<Cursor>
     requires { (length s.now ≤ max_document) × (c.at.0 ≤ length s.now) × (a < 128) × (b < 128) × (d < 128) × (e < 128) }
     ensures { SpelledIs (a ∷ b ∷ d ∷ e ∷ []) s.now c.at.0 result }
 {
-    let Letters::Yes(second) = letter(s, c, a) else {
-        return Letters::No;
-    };
-    let Letters::Yes(third) = letter(s, second, b) else {
-        return Letters::No;
-    };
-    let Letters::Yes(fourth) = letter(s, third, d) else {
-        return Letters::No;
-    };
+    let second = letter(s, c, a)?;
+    let third = letter(s, second, b)?;
+    let fourth = letter(s, third, d)?;
     letter(s, fourth, e)
 }
 
-fn spells_false(s: &[u8], c: Cursor) -> Letters
+fn spells_false(s: &[u8], c: Cursor) -> Option<Cursor>
     requires { (length s.now ≤ max_document) × (c.at.0 ≤ length s.now) }
     ensures { SpelledIs word_false s.now c.at.0 result }
 {
-    match letter(s, c, letters::F) {
-        Letters::Yes(next) => four(s, next, letters::A, letters::L, letters::S, letters::E),
-        Letters::No => Letters::No,
-    }
+    let second = letter(s, c, letters::F)?;
+    four(s, second, letters::A, letters::L, letters::S, letters::E)
 }
 
 /// Whether `include` stands here.
-pub fn spells_include(s: &[u8], c: Cursor) -> Letters
+pub fn spells_include(s: &[u8], c: Cursor) -> Option<Cursor>
     requires { (length s.now ≤ max_document) × (c.at.0 ≤ length s.now) }
     ensures { SpelledIs word_include s.now c.at.0 result }
 {
-    let Letters::Yes(second) = letter(s, c, letters::I) else {
-        return Letters::No;
-    };
-    let Letters::Yes(third) = letter(s, second, letters::N) else {
-        return Letters::No;
-    };
-    let Letters::Yes(fourth) = letter(s, third, letters::C) else {
-        return Letters::No;
-    };
+    let second = letter(s, c, letters::I)?;
+    let third = letter(s, second, letters::N)?;
+    let fourth = letter(s, third, letters::C)?;
     four(s, fourth, letters::L, letters::U, letters::D, letters::E)
 }
 
@@ -215,24 +182,23 @@ pub fn word_at(s: &[u8], c: Cursor) -> Word
     requires { (length s.now ≤ max_document) × (c.at.0 ≤ length s.now) }
     ensures { WordIs s.now c.at.0 result }
 {
-    let here = look(s, c);
-    let ch = here.ch;
+    let ch = look(s, c).ch;
     if ch == letters::T {
         return match four(s, c, letters::T, letters::R, letters::U, letters::E) {
-            Letters::Yes(end) => Word::True(end),
-            Letters::No => Word::Other,
+            Some(end) => Word::True(end),
+            None => Word::Other,
         };
     }
     if ch == letters::F {
         return match spells_false(s, c) {
-            Letters::Yes(end) => Word::False(end),
-            Letters::No => Word::Other,
+            Some(end) => Word::False(end),
+            None => Word::Other,
         };
     }
     if ch == letters::N {
         return match four(s, c, letters::N, letters::U, letters::L, letters::L) {
-            Letters::Yes(end) => Word::Null(end),
-            Letters::No => Word::Other,
+            Some(end) => Word::Null(end),
+            None => Word::Other,
         };
     }
     Word::Other

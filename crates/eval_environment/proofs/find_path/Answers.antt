@@ -5,8 +5,8 @@ use Rattle.eval_environment.proofs.find_path.Goals as goal
 pub loop-at-init : goal.loop-at-init
 loop-at-init c = search looks
 
-pub returns-in-Broken : goal.returns-in-Broken
-returns-in-Broken c = search looks
+pub returns-in-None : goal.returns-in-None
+returns-in-None c = search looks
 
 pub slice_bounds-is_path-count : goal.slice_bounds-is_path-count
 slice_bounds-is_path-count c = search looks

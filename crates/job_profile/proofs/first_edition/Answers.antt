@@ -11,8 +11,8 @@ bare_length-low-requires c = search (rules, step_small)
 pub bare_length-high-requires : goal.bare_length-high-requires
 bare_length-high-requires c = search (rules, step_small)
 
-pub returns-in-Missing : goal.returns-in-Missing
-returns-in-Missing c = search firsts
+pub returns-in-None : goal.returns-in-None
+returns-in-None c = search firsts
 
-pub returns-in-TenThousandths : goal.returns-in-TenThousandths
-returns-in-TenThousandths c = search firsts
+pub returns-in-Some : goal.returns-in-Some
+returns-in-Some c = search firsts

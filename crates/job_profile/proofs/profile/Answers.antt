@@ -18,14 +18,14 @@ first_edition-requires c = search whole-table
 pub second_edition-requires : goal.second_edition-requires
 second_edition-requires c = search whole-table
 
-pub returns-in-First : goal.returns-in-First
-returns-in-First c = search jobs
+pub returns-in-Some-First : goal.returns-in-Some-First
+returns-in-Some-First c = search jobs
 
-pub returns-in-Second : goal.returns-in-Second
-returns-in-Second c = search jobs
+pub returns-in-Some-Second : goal.returns-in-Some-Second
+returns-in-Some-Second c = search jobs
 
-pub returns-in-Unnamed : goal.returns-in-Unnamed
-returns-in-Unnamed c = search jobs
+pub returns-in-None : goal.returns-in-None
+returns-in-None c = search jobs
 
 pub returns-else-is_whole : goal.returns-else-is_whole
 returns-else-is_whole c = search jobs

@@ -5,8 +5,8 @@ use Rattle.text_environment.proofs.are_entries.Goals as goal
 pub loop-at-init : goal.loop-at-init
 loop-at-init c = search counts
 
-pub returns-in-Broken : goal.returns-in-Broken
-returns-in-Broken c = search counts
+pub returns-in_default : goal.returns-in_default
+returns-in_default c = search counts
 
 pub returns-then-left-eq0 : goal.returns-then-left-eq0
 returns-then-left-eq0 c = search counts

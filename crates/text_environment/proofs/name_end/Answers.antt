@@ -7,8 +7,8 @@ loop-p-init c = search names
 pub returns-then-b-eq-NUL : goal.returns-then-b-eq-NUL
 returns-then-b-eq-NUL c = search names
 
-pub returns-then-start-p : goal.returns-then-start-p
-returns-then-start-p c = search names
+pub returns-then-at-p : goal.returns-then-at-p
+returns-then-at-p c = search names
 
 pub returns-then-b-eq-EQUALS : goal.returns-then-b-eq-EQUALS
 returns-then-b-eq-EQUALS c = search names

@@ -21,27 +21,26 @@ use Rattle.text_scan.specs.Looks.{is_byte, not_byte, ascii-next}
 use Rattle.text_scan.specs.Walks.{Walk, Going, going_start, going_on, going_done, going_less}
 use Rattle.text_chars.specs.declared.Step.{Step}
 use Rattle.text_numbers.specs.Clauses.{NumberIs}
-use Rattle.text_numbers.specs.declared.Number.{Number}
+use Rattle.std.specs.Prelude.{Option as Maybe, Some, None}
 use Rattle.text_lengths.specs.Decimals.Contracts.{decimal_from, DecimalFrom, DecimalIs, UnitIs}
-use Rattle.text_lengths.specs.declared.decimals.Start.{Start}
-use Rattle.text_lengths.specs.declared.decimals.UnitRead.{UnitRead}
+use Rattle.text_lengths.specs.declared.decimals.Decimal.{Decimal}
 
 -- ---- the number
 
-module _ {s : List ℕ} {first : Cursor} {r : Number} (k : NumberIs s first.at.0 (after_int s first.at.0) r) where
-  pub from-other : {minus : Bool} → r ≡ Number.Missing → DecimalFrom s minus first.at.0 Start.Other
+module _ {s : List ℕ} {first : Cursor} {r : Maybe Cursor} (k : NumberIs s first.at.0 (after_int s first.at.0) r) where
+  pub from-other : {minus : Bool} → r ≡ None → DecimalFrom s minus first.at.0 None
   unfolding decimal_from
   from-other {minus} e =
       let o : none ≡ after_int s first.at.0 = rw e at k.is in
       record { is = rw (sym o, decimal_from); placed = tt }
 
-  module _ {point : Cursor} (e : r ≡ Number.End point) where
+  module _ {point : Cursor} (e : r ≡ Some point) where
     pub point-inside : point.at.0 ≤ length s
     point-inside = let m : (first.at.0 < point.at.0) × (point.at.0 ≤ length s) = rw e at k.moved in m.1
 
     pub from-number : {minus : Bool} {end : Cursor} → EndIs s point.at.0 (after_fraction s point.at.0) end
         → DecimalFrom s minus first.at.0
-        (Start.Number (record { minus = minus; first = first.at; point = point.at; end = end.at }))
+        (Some (record { minus = minus; first = first.at; point = point.at; end = end.at }))
     unfolding decimal_from
     from-number {minus} {end} f =
         let o : some point.at.0 ≡ after_int s first.at.0 = rw e at k.is in
@@ -52,7 +51,7 @@ of-from : (s : List ℕ) (minus : Bool) (first : ℕ) → eqb (byte_at s 0) 45 �
 unfolding decimal_from decimal_of decimal_to
 of-from s minus first e f = rw (← e, ← f)
 
-module _ {s : List ℕ} {seen : Step} (k : SeenIs s 0 seen) {r : Start} where
+module _ {s : List ℕ} {seen : Step} (k : SeenIs s 0 seen) {r : Maybe Decimal} where
   pub of-minus : seen.ch ≡ 45 → DecimalFrom s true seen.next.at.0 r → DecimalIs s r
   of-minus e d =
       let b : eqb (byte_at s 0) 45 ≡ true = is_byte k 45 (omega arith) e in
@@ -97,45 +96,45 @@ pub ruleset space-loop = (going_start, space-on, space-less, space-done)
 -- ---- the unit
 
 module _ (first second : ℕ) where
-  pub unit-mm : first ≡ 109 → second ≡ 109 → UnitIs (unit_of first second) (UnitRead.Micrometres 1000)
+  pub unit-mm : first ≡ 109 → second ≡ 109 → UnitIs (unit_of first second) (Some 1000)
   unfolding unit_of
   unit-mm e f = rw (e, f) (record { is = refl; short = omega arith })
 
-  pub unit-um : first ≡ 117 → second ≡ 109 → UnitIs (unit_of first second) (UnitRead.Micrometres 1)
+  pub unit-um : first ≡ 117 → second ≡ 109 → UnitIs (unit_of first second) (Some 1)
   unfolding unit_of
   unit-um e f = rw (e, f) (record { is = refl; short = omega arith })
 
-  pub unit-in : first ≡ 105 → second ≡ 110 → UnitIs (unit_of first second) (UnitRead.Micrometres 25400)
+  pub unit-in : first ≡ 105 → second ≡ 110 → UnitIs (unit_of first second) (Some 25400)
   unfolding unit_of
   unit-in e f = rw (e, f) (record { is = refl; short = omega arith })
 
-  pub unit-no-mm : first ≡ 109 → (second ≡ 109 → ⊥) → UnitIs (unit_of first second) UnitRead.Missing
+  pub unit-no-mm : first ≡ 109 → (second ≡ 109 → ⊥) → UnitIs (unit_of first second) None
   unfolding unit_of
   unit-no-mm e n = rw e (record { is = rw (ne_eqb second 109 n, unit_of); short = tt })
 
-  pub unit-no-um : first ≡ 117 → (second ≡ 109 → ⊥) → UnitIs (unit_of first second) UnitRead.Missing
+  pub unit-no-um : first ≡ 117 → (second ≡ 109 → ⊥) → UnitIs (unit_of first second) None
   unfolding unit_of
   unit-no-um e n = rw e (record { is = rw (ne_eqb second 109 n, unit_of); short = tt })
 
-  pub unit-no-in : first ≡ 105 → (second ≡ 110 → ⊥) → UnitIs (unit_of first second) UnitRead.Missing
+  pub unit-no-in : first ≡ 105 → (second ≡ 110 → ⊥) → UnitIs (unit_of first second) None
   unfolding unit_of
   unit-no-in e n = rw e (record { is = rw (ne_eqb second 110 n, unit_of); short = tt })
 
-  pub unit-none : (first ≡ 109 → ⊥) → (first ≡ 117 → ⊥) → (first ≡ 105 → ⊥) → UnitIs (unit_of first second) UnitRead.Missing
+  pub unit-none : (first ≡ 109 → ⊥) → (first ≡ 117 → ⊥) → (first ≡ 105 → ⊥) → UnitIs (unit_of first second) None
   unfolding unit_of
   unit-none m u i = record { is = rw (ne_eqb first 109 m, ne_eqb first 117 u, ne_eqb first 105 i, unit_of); short = tt }
 
 pub ruleset units = (unit-mm, unit-um, unit-in, unit-no-mm, unit-no-um, unit-no-in, unit-none)
 
 module _ (s : List ℕ) (at : ℕ) where
-  pub unit_ends : {a b : ℕ} {r : UnitRead} → length s ≡ at + 2 → ByteIs s at a → ByteIs s (at + 1) b → UnitIs (unit_of a b) r
+  pub unit_ends : {a b : ℕ} {r : Maybe ℕ} → length s ≡ at + 2 → ByteIs s at a → ByteIs s (at + 1) b → UnitIs (unit_of a b) r
       → UnitIs (unit_at s at) r
   unfolding unit_at
   unit_ends e a b k =
       let z : unit_at s at ≡ unit_of (byte_at s at) (byte_at s (at + 1)) = rw (eq-eqb (length s) (at + 2) e, unit_at) in
       record { is = k.is ∙ rw (a.is, b.is, z); short = k.short }
 
-  pub unit-elsewhere : (length s ≡ at + 2 → ⊥) → UnitIs (unit_at s at) UnitRead.Missing
+  pub unit-elsewhere : (length s ≡ at + 2 → ⊥) → UnitIs (unit_at s at) None
   unfolding unit_at
   unit-elsewhere n = record { is = rw (ne_eqb (length s) (at + 2) n, unit_at); short = tt }
 

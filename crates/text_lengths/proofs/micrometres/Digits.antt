@@ -19,8 +19,9 @@ use Rattle.text_lengths.specs.Decimals.Contracts.{decimal_in}
 use Rattle.text_lengths.specs.declared.decimals.Decimal.{Decimal}
 use Rattle.text_lengths.specs.Micrometres.Contracts.{too_many, DigitsTo, WholeIs, tenth, fraction_c, fraction_as, max_fraction, FractionIs, MeasuredIs}
 use Rattle.text_lengths.specs.Micrometres.Exact.{tenth-whole, tenth-broken, not-whole, too_long, fine, summed, summed-step}
-use Rattle.text_lengths.specs.declared.micrometres.Fraction.{Fraction}
-use Rattle.text_lengths.specs.declared.micrometres.Measured.{Measured}
+use Rattle.std.specs.Prelude.{Option as Maybe, Some, None, Ok, Err}
+use Rattle.text_chars.specs.Cursor.{doc, refusal}
+use Rattle.text_chars.specs.declared.Refusal.{Refusal}
 
 -- ---- one digit
 
@@ -155,13 +156,13 @@ module _ {s : List ℕ} {from to unit at rest : ℕ} (g : Dividing s from to uni
       small = omega (arith, own, g.small);
     }
 
-    pub divide-broken : 0 < tenfold % 10 → FractionIs s from to unit Fraction.Broken
+    pub divide-broken : 0 < tenfold % 10 → FractionIs s from to unit None
     divide-broken z =
         let n : fraction_c unit (slice (at - 1) to s) ≡ none = here ∙ tenth-broken tenfold (λ h. absurd (omega arith)) in
         let all = broken-before s to unit (at - 1 - from) from (at - 1) (omega arith) (omega (arith, g.inside)) lent.1 n in
         record { is = rw all; small = tt }
 
-  pub divide-done : at ≤ from → FractionIs s from to unit (Fraction.Micrometres rest)
+  pub divide-done : at ≤ from → FractionIs s from to unit (Some rest)
   divide-done h = record { is = rw (go (leb from to) refl); small = g.small }
     where
       go : (t : Bool) → leb from to ≡ t → fraction_c unit (slice from to s) ≡ some rest
@@ -177,32 +178,33 @@ pub ruleset divide-needs = (divide-digit-fits, divide-fits)
 
 -- ---- both together
 
-fraction-none : (o : Option ℕ) → Fraction.Broken ≡ fraction_as o → o ≡ none
+fraction-none : (o : Option ℕ) → None ≡ fraction_as o → o ≡ none
 fraction-none none e = refl
 fraction-none (some n) e = clash (cc)
 
-fraction-some : (o : Option ℕ) (n : ℕ) → Fraction.Micrometres n ≡ fraction_as o → o ≡ some n
+fraction-some : (o : Option ℕ) (n : ℕ) → Some n ≡ fraction_as o → o ≡ some n
 fraction-some none n e = clash (cc)
 fraction-some (some m) n e = cc
 
-pub in-fits : {s : List ℕ} {unit from to first point rest w : ℕ} {f : Fraction} → FractionIs s from to unit f → f ≡ Fraction.Micrometres rest
+pub in-fits : {s : List ℕ} {unit from to first point rest w : ℕ} {f : Maybe ℕ} → FractionIs s from to unit f → f ≡ Some rest
     → WholeIs s first point unit w → w + rest < 2 ^ 32
 in-fits {rest = rest} k e h = let l : rest ≤ max_fraction = rw e at k.small in omega (arith, h.is)
 
-module _ {s : List ℕ} {unit : ℕ} (d : Decimal) {f : Fraction} (k : FractionIs s (d.point.0 + 1) d.end.0 unit f) where
-  pub in-broken : f ≡ Fraction.Broken → MeasuredIs (in_micrometres unit (decimal_in s d)) (Measured.Refused 23)
+module _ {s : List ℕ} {unit : ℕ} (d : Decimal) {f : Maybe ℕ} (k : FractionIs s (d.point.0 + 1) d.end.0 unit f) where
+  pub in-broken : f ≡ None → {z : Refusal} → z ≡ refusal 23 (doc 0) → MeasuredIs (in_micrometres unit (decimal_in s d)) (Err z)
   unfolding no_length
-  in-broken e = record { is = not-whole unit (decimal_in s d) (fraction-none _ (sym e ∙ k.is)); numbered = omega arith }
+  in-broken e z = rw z (record { is = not-whole unit (decimal_in s d) (fraction-none _ (sym e ∙ k.is)); numbered = (omega arith, refl) })
 
-  module _ {rest : ℕ} (e : f ≡ Fraction.Micrometres rest) {w : ℕ} (h : WholeIs s d.first.0 d.point.0 unit w) where
+  module _ {rest : ℕ} (e : f ≡ Some rest) {w : ℕ} (h : WholeIs s d.first.0 d.point.0 unit w) where
     behind : fraction_c unit (decimal_in s d).fraction ≡ some rest
     behind = fraction-some _ rest (sym e ∙ k.is)
 
-    pub in-too-long : max_micrometres < w + rest → MeasuredIs (in_micrometres unit (decimal_in s d)) (Measured.Refused 24)
+    pub in-too-long : max_micrometres < w + rest → {z : Refusal} → z ≡ refusal 24 (doc 0)
+        → MeasuredIs (in_micrometres unit (decimal_in s d)) (Err z)
     unfolding no_length
-    in-too-long l = record { is = too_long unit (decimal_in s d) rest behind (omega (arith, h.is)); numbered = omega arith }
+    in-too-long l z = rw z (record { is = too_long unit (decimal_in s d) rest behind (omega (arith, h.is)); numbered = (omega arith, refl) })
 
-    pub in-fine : w + rest ≤ max_micrometres → MeasuredIs (in_micrometres unit (decimal_in s d)) (Measured.Micrometres (w + rest))
+    pub in-fine : w + rest ≤ max_micrometres → MeasuredIs (in_micrometres unit (decimal_in s d)) (Ok (w + rest))
     in-fine l =
         let all : w ≡ digits_value (decimal_in s d).whole * unit = omega (arith, h.is) in
         record { is = rw all (fine unit (decimal_in s d) rest behind (omega arith)); numbered = tt }

@@ -1,8 +1,14 @@
 use Rattle.text_lengths.proofs.Lengths.{rests, unit-needs}
 use Rattle.text_lengths.proofs.with_rest.Goals as goal
 
-pub returns-then-end-s : goal.returns-then-end-s
-returns-then-end-s c = search rests
+pub returns-then-d-s : goal.returns-then-d-s
+returns-then-d-s c = search rests
+
+pub returns-then-not-string : goal.returns-then-not-string
+returns-then-not-string c = search rests
+
+pub returns-in_default : goal.returns-in_default
+returns-in_default c = search rests
 
 pub returns-then-d : goal.returns-then-d
 returns-then-d c = search rests
@@ -10,11 +16,5 @@ returns-then-d c = search rests
 pub in_micrometres-requires : goal.in_micrometres-requires
 in_micrometres-requires c = search unit-needs
 
-pub returns-in-Missing : goal.returns-in-Missing
-returns-in-Missing c = search rests
-
-pub returns-else-d : goal.returns-else-d
-returns-else-d c = search rests
-
-pub returns-else-string : goal.returns-else-string
-returns-else-string c = search rests
+pub returns : goal.returns
+returns c = search rests

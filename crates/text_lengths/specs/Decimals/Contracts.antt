@@ -1,12 +1,10 @@
 -- What the functions on a length's form promise, by the rules' definitions.
-use Rattle.std.specs.Prelude.{◌≡◌, ℕ, ◌+◌, ◌≤◌, Bool, List, length}
+use Rattle.std.specs.Prelude.{◌≡◌, ℕ, ◌+◌, ◌≤◌, Bool, List, length, Option as Maybe, Some, None}
 use Rattle.std.proofs.Math.Option.{Option, none, some}
 use Rattle.std.proofs.Math.Seq.{slice}
 use Rattle.rules.specs.Numbers.{after_int, after_fraction}
 use Rattle.rules.specs.Micrometres as rules
 use Rattle.text_lengths.specs.declared.decimals.Decimal.{Decimal}
-use Rattle.text_lengths.specs.declared.decimals.Start.{Start}
-use Rattle.text_lengths.specs.declared.decimals.UnitRead.{UnitRead}
 
 -- the rules' number for the code's places
 abbrev pub decimal_in : List ℕ → Decimal → rules.Decimal
@@ -17,14 +15,14 @@ decimal_in s d = record {
   end = d.end.0;
 }
 
-abbrev pub start_in : List ℕ → Start → Option rules.Decimal
-start_in s Start.Other = none
-start_in s (Start.Number d) = some (decimal_in s d)
+abbrev pub start_in : List ℕ → Maybe Decimal → Option rules.Decimal
+start_in s None = none
+start_in s (Some d) = some (decimal_in s d)
 
 -- the places stand in their order, inside the text
-abbrev pub Placed : ℕ → Start → Type 0
-Placed len Start.Other = Unit {0}
-Placed len (Start.Number d) = (d.point.0 ≤ d.end.0) × (d.end.0 ≤ len)
+abbrev pub Placed : ℕ → Maybe Decimal → Type 0
+Placed len None = Unit {0}
+Placed len (Some d) = (d.point.0 ≤ d.end.0) × (d.end.0 ≤ len)
 
 -- the number with this sign, whose first digit is to stand at a place
 unfoldable pub decimal_from : List ℕ → Bool → ℕ → Option rules.Decimal
@@ -37,23 +35,23 @@ decimal_from s minus first =
           some (record { minus = minus; whole = slice first point s; fraction = slice (point + 1) end s; end = end })
     ]
 
-pub record DecimalFrom (s : List ℕ) (minus : Bool) (first : ℕ) (r : Start) : Type 0 where
+pub record DecimalFrom (s : List ℕ) (minus : Bool) (first : ℕ) (r : Maybe Decimal) : Type 0 where
   pub is : start_in s r ≡ decimal_from s minus first
   pub placed : Placed (length s) r
 
-pub record DecimalIs (s : List ℕ) (r : Start) : Type 0 where
+pub record DecimalIs (s : List ℕ) (r : Maybe Decimal) : Type 0 where
   pub is : start_in s r ≡ rules.decimal_of s
   pub placed : Placed (length s) r
 
-abbrev pub unit_as : Option ℕ → UnitRead
-unit_as none = UnitRead.Missing
-unit_as (some n) = UnitRead.Micrometres n
+abbrev pub unit_as : Option ℕ → Maybe ℕ
+unit_as none = None
+unit_as (some n) = Some n
 
 -- an inch is the longest unit
-abbrev pub Short : UnitRead → Type 0
-Short UnitRead.Missing = Unit {0}
-Short (UnitRead.Micrometres n) = n ≤ rules.inch
+abbrev pub Short : Maybe ℕ → Type 0
+Short None = Unit {0}
+Short (Some n) = n ≤ rules.inch
 
-pub record UnitIs (o : Option ℕ) (r : UnitRead) : Type 0 where
+pub record UnitIs (o : Option ℕ) (r : Maybe ℕ) : Type 0 where
   pub is : r ≡ unit_as o
   pub short : Short r

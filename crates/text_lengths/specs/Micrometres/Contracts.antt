@@ -1,13 +1,12 @@
 -- What the functions on a length's digits promise, by the rules' definitions.
-use Rattle.std.specs.Prelude.{◌≡◌, ℕ, ◌+◌, ◌-◌, ◌*◌, ◌/◌, ◌%◌, ◌≤◌, min, true, false, List, [], ◌∷◌, eqb, length}
+use Rattle.std.specs.Prelude.{◌≡◌, ℕ, ◌+◌, ◌-◌, ◌*◌, ◌/◌, ◌%◌, ◌≤◌, min, true, false, List, [], ◌∷◌, eqb, length, Option as Maybe, Some, None, Result, Ok, Err}
 use Rattle.std.proofs.Math.Option.{Option, none, some}
 use Rattle.std.proofs.Math.Seq.{slice}
 use Rattle.rules.specs.Bytes.{Text}
 use Rattle.rules.specs.Sizes.{max_document}
 use Rattle.rules.specs.Micrometres as rules
 use Rattle.rules.specs.Micrometres.{inch, digits_value}
-use Rattle.text_lengths.specs.declared.micrometres.Fraction.{Fraction}
-use Rattle.text_lengths.specs.declared.micrometres.Measured.{Measured}
+use Rattle.text_chars.specs.declared.Refusal.{Refusal}
 
 -- digits up to a place of a text, and a unit
 abbrev pub DigitsTo : List ℕ → ℕ → ℕ → Type 0
@@ -30,32 +29,32 @@ unfolding tenth
 fraction_c unit [] = some 0
 fraction_c unit (b ∷ bs) = elim (fraction_c unit bs) [ none ↦ none | some rest ↦ tenth ((b - 48) * unit + rest) ]
 
-abbrev pub fraction_as : Option ℕ → Fraction
-fraction_as none = Fraction.Broken
-fraction_as (some n) = Fraction.Micrometres n
+abbrev pub fraction_as : Option ℕ → Maybe ℕ
+fraction_as none = None
+fraction_as (some n) = Some n
 
 -- so small that no sum wraps
 abbrev pub max_fraction : ℕ
 max_fraction = 1000000
 
-abbrev pub Small : Fraction → Type 0
-Small Fraction.Broken = Unit {0}
-Small (Fraction.Micrometres n) = n ≤ max_fraction
+abbrev pub Small : Maybe ℕ → Type 0
+Small None = Unit {0}
+Small (Some n) = n ≤ max_fraction
 
-pub record FractionIs (s : List ℕ) (from to unit : ℕ) (r : Fraction) : Type 0 where
+pub record FractionIs (s : List ℕ) (from to unit : ℕ) (r : Maybe ℕ) : Type 0 where
   pub is : r ≡ fraction_as (fraction_c unit (slice from to s))
   pub small : Small r
 
 -- the paper's number and micrometres for each case
-abbrev pub measured_of : Measured → rules.Measured
-measured_of (Measured.Micrometres n) = record { number = 0; micrometres = n }
-measured_of (Measured.Refused number) = record { number = number; micrometres = 0 }
+abbrev pub measured_of : Result ℕ Refusal → rules.Measured
+measured_of (Ok n) = record { number = 0; micrometres = n }
+measured_of (Err e) = record { number = e.number; micrometres = 0 }
 
--- a refusal's number is not 0, which is none
-abbrev pub Numbered : Measured → Type 0
-Numbered (Measured.Micrometres n) = Unit {0}
-Numbered (Measured.Refused number) = 1 ≤ number
+-- a refusal's number is not 0, which is none; it has no place
+abbrev pub Numbered : Result ℕ Refusal → Type 0
+Numbered (Ok n) = Unit {0}
+Numbered (Err e) = (1 ≤ e.number) × (e.place.0 ≡ 0)
 
-pub record MeasuredIs (m : rules.Measured) (r : Measured) : Type 0 where
+pub record MeasuredIs (m : rules.Measured) (r : Result ℕ Refusal) : Type 0 where
   pub is : measured_of r ≡ m
   pub numbered : Numbered r

@@ -1,14 +1,14 @@
 use Rattle.text_runs.proofs.Runs.{joining}
 use Rattle.text_runs.proofs.run_end.Goals as goal
 
-pub loop-i-init : goal.loop-i-init
-loop-i-init c = search joining
+pub loop-init : goal.loop-init
+loop-init c = search joining
 
-pub returns-in-Not : goal.returns-in-Not
-returns-in-Not c = search joining
+pub returns-in_default : goal.returns-in_default
+returns-in_default c = search joining
 
-pub loop-i-preserved : goal.loop-i-preserved
-loop-i-preserved c = search joining
+pub loop-preserved : goal.loop-preserved
+loop-preserved c = search joining
 
 pub returns : goal.returns
 returns c = search joining

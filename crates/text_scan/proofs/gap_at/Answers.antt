@@ -10,5 +10,5 @@ loop-more-smaller c = search gaps
 pub loop-more-preserved : goal.loop-more-preserved
 loop-more-preserved c = search gaps
 
-pub returns-in-Done : goal.returns-in-Done
-returns-in-Done c = search gaps
+pub returns : goal.returns
+returns c = search gaps
