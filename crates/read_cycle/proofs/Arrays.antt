@@ -1,4 +1,5 @@
 -- Arrays as containers, and the contracts of their readers by those of containers.
+use Rattle.std.specs.Prelude.{Result, Ok, Err}
 use mathlib.Core.Path.{◌≡◌, refl}
 use Prim.Native.Nat.{ℕ}
 use mathlib.Core.List.{List}
@@ -7,6 +8,7 @@ use Rattle.rules.specs.Refusals.{got, read_then}
 use Rattle.rules.specs.Tree.{Node, Elements}
 use Rattle.rules.specs.Reading.{elements_from, element_at, array_at, value_in}
 use Rattle.theory.specs.ValueSteps.{element-forward}
+use Rattle.text_chars.specs.declared.Refusal.{Refusal}
 use Rattle.read_grammar.specs.Limits.Limits.{nesting_of}
 use Rattle.read_values.specs.declared.pieces.Listed.{Listed}
 use Rattle.read_cycle.specs.Clauses.{Array, AnElement, ArrayIs, ElementIs}
@@ -32,19 +34,19 @@ array_like = record {
   forward = λ s left h. element-forward s (nesting_of left) (omega arith) (omega arith);
 }
 
-module _ {s : List ℕ} {at left items : ℕ} {table text table' text' : List ℕ} {r : Listed} where
+module _ {s : List ℕ} {at left items : ℕ} {table text table' text' : List ℕ} {r : Result Listed Refusal} where
   pub array-is : WholeIs array_like s at left items table text table' text' r → ArrayIs s at left items table text table' text' r
   array-is h = record { is = go r h.is; kept_table = h.kept_table; kept-text = h.kept-text }
     where
-      go : (r : Listed) → WholeRead array_like s at left items table' text' r → Array s at left items table' text' r
-      go (Listed.Done c n) v = (elements_from v.0, v.1, v.2, v.3)
-      go (Listed.Refused k p) v = v
+      go : (r : Result Listed Refusal) → WholeRead array_like s at left items table' text' r → Array s at left items table' text' r
+      go (Ok u) v = (elements_from v.0, v.1, v.2, v.3)
+      go (Err e) v = v
 
   pub element-is : ElementIs s at left items table text table' text' r → MemberIs array_like s at left items table text table' text' r
   element-is h = record { is = go r h.is; kept_table = h.kept_table; kept-text = h.kept-text }
     where
-      go : (r : Listed) → AnElement s at left items table' text' r → OneRead array_like s at left items table' text' r
-      go (Listed.Done c n) v = record { member = v.0; is = v.1; reached = v.2; held = rw (one-element v.0) v.3 }
-      go (Listed.Refused k p) v = v
+      go : (r : Result Listed Refusal) → AnElement s at left items table' text' r → OneRead array_like s at left items table' text' r
+      go (Ok u) v = record { member = v.0; is = v.1; reached = v.2; held = rw (one-element v.0) v.3 }
+      go (Err e) v = v
 
 pub ruleset arrays = (containers, array-is, element-is)

@@ -1,13 +1,14 @@
 -- A container, array and object alike: its reader by the reader of its members, and one law for each answer of the loop that reads it.
+use Rattle.std.specs.Prelude.{Result, Ok, Err}
 use mathlib.Core.Path.{◌≡◌, refl, sym, ◌∙◌}
 use Prim.Native.Nat.{ℕ, ◌*◌, ◌-◌, ◌≤◌, ◌<◌}
 use mathlib.Core.List.{List}
 use native.Mathlib.Omega.{arith}
 use lib.ListN.{length}
 use Rattle.rules.specs.Refusals.{ended, Read, got, read_then}
-use Rattle.text_chars.specs.Cursor.{doc}
-use Rattle.text_chars.specs.declared.DocAt.{DocAt}
+use Rattle.text_chars.specs.Cursor.{doc, refusal}
 use Rattle.text_chars.specs.declared.Cursor.{Cursor}
+use Rattle.text_chars.specs.declared.Refusal.{Refusal}
 use Rattle.text_scan.specs.Scan.{GapIs}
 use Rattle.text_scan.specs.declared.Gap.{Gap}
 use Rattle.read_grammar.specs.Decisions.{Turns, TurnIs}
@@ -35,22 +36,22 @@ pub record Container : Type 1 where
   pub forward : (s : List ℕ) (left : ℕ) → left ≤ 31 → (at items : ℕ) (m : Member) (end n : ℕ) → member_at s left at items ≡ got m end n → at < end
 
 module _ (K : Container) (s : List ℕ) (at left items : ℕ) (table text : List ℕ) where
-  abbrev pub WholeRead : Listed → Type 0
-  WholeRead (Listed.Done c n) =
-      (ms : List K.Member) × (K.whole_at s left at items ≡ got (K.whole ms) c.at.0 n) × Reached s at items c.at.0 n
-      × K.holding.H (numbers table) (letters (2 * at) text) (2 * at) (2 * c.at.0) 0 (n - items) ms
-  WholeRead (Listed.Refused k p) = Refuses (K.whole_at s left at items) k p
+  abbrev pub WholeRead : Result Listed Refusal → Type 0
+  WholeRead (Ok v) =
+      (ms : List K.Member) × (K.whole_at s left at items ≡ got (K.whole ms) v.next.at.0 v.items) × Reached s at items v.next.at.0 v.items
+      × K.holding.H (numbers table) (letters (2 * at) text) (2 * at) (2 * v.next.at.0) 0 (v.items - items) ms
+  WholeRead (Err e) = Refuses (K.whole_at s left at items) e.number e.place
 
-  abbrev pub OneRead : Listed → Type 0
-  OneRead (Listed.Done c n) = MemberRead K.holding K.closing (K.member_at s left) s at items table text c.at.0 n
-  OneRead (Listed.Refused k p) = Refuses (parted_after K.closing s (K.member_at s left at items)) k p
+  abbrev pub OneRead : Result Listed Refusal → Type 0
+  OneRead (Ok v) = MemberRead K.holding K.closing (K.member_at s left) s at items table text v.next.at.0 v.items
+  OneRead (Err e) = Refuses (parted_after K.closing s (K.member_at s left at items)) e.number e.place
 
-pub record WholeIs (K : Container) (s : List ℕ) (at left items : ℕ) (table text table' text' : List ℕ) (r : Listed) : Type 0 where
+pub record WholeIs (K : Container) (s : List ℕ) (at left items : ℕ) (table text table' text' : List ℕ) (r : Result Listed Refusal) : Type 0 where
   pub is : WholeRead K s at left items table' text' r
   pub kept_table : length table' ≡ length table
   pub kept-text : length text' ≡ length text
 
-pub record MemberIs (K : Container) (s : List ℕ) (at left items : ℕ) (table text table' text' : List ℕ) (r : Listed) : Type 0 where
+pub record MemberIs (K : Container) (s : List ℕ) (at left items : ℕ) (table text table' text' : List ℕ) (r : Result Listed Refusal) : Type 0 where
   pub is : OneRead K s at left items table' text' r
   pub kept_table : length table' ≡ length table
   pub kept-text : length text' ≡ length text
@@ -76,7 +77,7 @@ module _ {K : Container} {s : List ℕ} {at₀ left items₀ : ℕ} {table₀ te
   J = I.is
 
   module _ {r : Turn} (h : TurnIs K.closing s at r) where
-    pub container-close : {c : Cursor} → r ≡ Turn.Close c → WholeIs K s at₀ left items₀ table₀ text₀ x t (Listed.Done c items)
+    pub container-close : {c : Cursor} → r ≡ Turn.Close c → WholeIs K s at₀ left items₀ table₀ text₀ x t (Ok (record { next = c; items = items }))
     container-close {c} e =
         let k : Turns K.closing s at (Turn.Close c) = rw e at h.is in
         let all = M.rest-close K.closing (K.member_at s left) s J.rest k.0 in
@@ -91,7 +92,7 @@ module _ {K : Container} {s : List ℕ} {at₀ left items₀ : ℕ} {table₀ te
           kept-text = J.kept-text;
         }
 
-    pub container-end : r ≡ Turn.End → WholeIs K s at₀ left items₀ table₀ text₀ x t (Listed.Refused 4 (doc (length s)))
+    pub container-end : r ≡ Turn.End → WholeIs K s at₀ left items₀ table₀ text₀ x t (Err (refusal 4 (doc (length s))))
     container-end e =
         let k : Turns K.closing s at Turn.End = rw e at h.is in
         record {
@@ -100,12 +101,12 @@ module _ {K : Container} {s : List ℕ} {at₀ left items₀ : ℕ} {table₀ te
           kept-text = J.kept-text;
         }
 
-    module _ (e : r ≡ Turn.Member) {y z : List ℕ} {q : Listed} (m : MemberIs K s at left items (part (8 * (items - items₀)) x) (part (2 * (at - at₀)) t) y z q) where
-      pub container-refused : {k : ℕ} {p : DocAt} → q ≡ Listed.Refused k p
-          → WholeIs K s at₀ left items₀ table₀ text₀ (back (8 * (items - items₀)) x y) (back (2 * (at - at₀)) t z) (Listed.Refused k p)
-      container-refused {k} {p} f =
+    module _ (e : r ≡ Turn.Member) {y z : List ℕ} {q : Result Listed Refusal} (m : MemberIs K s at left items (part (8 * (items - items₀)) x) (part (2 * (at - at₀)) t) y z q) where
+      pub container-refused : {d : Refusal} → q ≡ Err d
+          → WholeIs K s at₀ left items₀ table₀ text₀ (back (8 * (items - items₀)) x y) (back (2 * (at - at₀)) t z) (Err d)
+      container-refused {d} f =
           let u : Turns K.closing s at Turn.Member = rw e at h.is in
-          let v : OneRead K s at left items y z (Listed.Refused k p) = rw f at m.is in
+          let v : OneRead K s at left items y z (Err d) = rw f at m.is in
           record {
             is = (
               v.0,
@@ -117,20 +118,20 @@ module _ {K : Container} {s : List ℕ} {at₀ left items₀ : ℕ} {table₀ te
             kept-text = back-length (2 * (at - at₀)) t z (list-in-text a J) m.kept-text ∙ J.kept-text;
           }
 
-      pub container-turn : {c : Cursor} {n : ℕ} → q ≡ Listed.Done c n
-          → Inv K s at₀ left items₀ table₀ text₀ c.at.0 n (back (8 * (items - items₀)) x y) (back (2 * (at - at₀)) t z)
-      container-turn {c} {n} f =
+      pub container-turn : {v : Listed} → q ≡ Ok v
+          → Inv K s at₀ left items₀ table₀ text₀ v.next.at.0 v.items (back (8 * (items - items₀)) x y) (back (2 * (at - at₀)) t z)
+      container-turn {v} f =
           let u : Turns K.closing s at Turn.Member = rw e at h.is in
-          let v : OneRead K s at left items y z (Listed.Done c n) = rw f at m.is in
+          let w : OneRead K s at left items y z (Ok v) = rw f at m.is in
           record {
-            is = list-turn K.holding K.closing (K.member_at s left) a J v m.kept_table m.kept-text (K.forward s left a.nested) u.0 u.1;
+            is = list-turn K.holding K.closing (K.member_at s left) a J w m.kept_table m.kept-text (K.forward s left a.nested) u.0 u.1;
             asked = a;
           }
 
-      pub container-less : {c : Cursor} {n : ℕ} → q ≡ Listed.Done c n → length s - c.at.0 < length s - at
-      container-less {c} {n} f =
-          let v : OneRead K s at left items y z (Listed.Done c n) = rw f at m.is in
-          omega (arith, v.reached.forward, v.reached.inside)
+      pub container-less : {v : Listed} → q ≡ Ok v → length s - v.next.at.0 < length s - at
+      container-less {v} f =
+          let w : OneRead K s at left items y z (Ok v) = rw f at m.is in
+          omega (arith, w.reached.forward, w.reached.inside)
 
   pub container-asks : Asked s at left items (part (8 * (items - items₀)) x) (part (2 * (at - at₀)) t)
   container-asks = list-asks a J

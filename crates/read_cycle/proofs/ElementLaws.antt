@@ -1,4 +1,5 @@
 -- One law for each answer of the reader of an element.
+use Rattle.std.specs.Prelude.{Result, Ok, Err}
 use mathlib.Core.Path.{◌≡◌, refl, ap, ◌∙◌}
 use Prim.Native.Nat.{ℕ, suc, ◌+◌, ◌≤◌, ◌<◌}
 use mathlib.Core.List.{List}
@@ -6,10 +7,8 @@ use native.Mathlib.Omega.{arith}
 use lib.ListN.{length}
 use Rattle.rules.specs.Sizes.{max_items}
 use Rattle.rules.specs.Reading.{element_at, value_in}
-use Rattle.text_chars.specs.Cursor.{doc}
-use Rattle.text_chars.specs.declared.TextAt as chars
-use Rattle.text_chars.specs.declared.TextLen.{TextLen}
-use Rattle.text_chars.specs.declared.Cursor.{Cursor}
+use Rattle.text_chars.specs.Cursor.{doc, refusal}
+use Rattle.text_chars.specs.declared.Refusal.{Refusal}
 use Rattle.text_chars.specs.Parts.{part, back, part_length, back-length}
 use Rattle.doc_items.specs.Writing.{ItemIs}
 use Rattle.read_grammar.specs.Limits.Limits.{nesting_of, ExcessNumberIs}
@@ -24,7 +23,7 @@ use Rattle.read_cycle.proofs.Parting.{parted-got, parted-fail, parted-rejected, 
 module _ {s : List ℕ} {at left items : ℕ} {table text : List ℕ} (a : Asked s at left items table text) where
   -- ---- no further item
 
-  pub element-full : {k : ℕ} → items ≡ max_items → ExcessNumberIs s at k → ElementIs s at left items table text table text (Listed.Refused k (doc at))
+  pub element-full : {k : ℕ} → items ≡ max_items → ExcessNumberIs s at k → ElementIs s at left items table text table text (Err (refusal k (doc at)))
   element-full {k} e h = record {
     is = (h.why, parted-rejected 93 s (ap (element_at (value_in s) s (nesting_of left) at) e ∙ h.is (value_in s) (nesting_of left)), h.number, h.place);
     kept_table = refl;
@@ -48,20 +47,20 @@ module _ {s : List ℕ} {at left items : ℕ} {table text : List ℕ} (a : Asked
       text-room = a.text-room;
     }
 
-    module _ {y z : List ℕ} {v : Valued} (m : ValueIs s at left (items + 1) (part 8 table) text y z v) where
+    module _ {y z : List ℕ} {v : Result Valued Refusal} (m : ValueIs s at left (items + 1) (part 8 table) text y z v) where
       kept_back : length (back 8 table y) ≡ length table
       kept_back = back-length 8 table y in_table m.kept_table
 
       pub element-membered : FinishElementAsked s at items v (back 8 table y)
       element-membered = record { is = go v refl }
         where
-          go : (q : Valued) → v ≡ q → Listable s at items (back 8 table y) q
-          go (Valued.Refused k p) e = tt
-          go (Valued.Done c n k o w) e =
-              let t : Value s at left (items + 1) y z (Valued.Done c n k o w) = rw e at m.is in
-              let f : n ≤ max_items = t.2.few in
-              let g : c.at.0 ≤ length s = t.2.inside in
-              let h : suc at ≤ c.at.0 = t.2.forward in (
+          go : (q : Result Valued Refusal) → v ≡ q → Listable s at items (back 8 table y) q
+          go (Err d) e = tt
+          go (Ok o) e =
+              let t : Value s at left (items + 1) y z (Ok o) = rw e at m.is in
+              let f : o.items ≤ max_items = t.2.few in
+              let g : o.next.at.0 ≤ length s = t.2.inside in
+              let h : suc at ≤ o.next.at.0 = t.2.forward in (
                 a.short,
                 omega (arith, t.2.more),
                 g,
@@ -78,36 +77,37 @@ module _ {s : List ℕ} {at left items : ℕ} {table text : List ℕ} (a : Asked
                 },
               )
 
-      module _ {x' : List ℕ} {r : Listed} (w' : FinishElementIs s at items v (back 8 table y) x' r) where
-        parting : (c : Cursor) (n k : ℕ) (o : chars.TextAt) (w : TextLen) → Value s at left (items + 1) y z (Valued.Done c n k o w)
-            → ItemIs 0 (element_item items n k o w (doc at)) (back 8 table y) x' → AfterMemberIs 93 s c.at.0 n r → (q : Listed) → r ≡ q → AnElement s at left items x' z q
-        parting c n k o w t i b (Listed.Done d j) f =
-            let u : Behind 93 s c.at.0 n (Listed.Done d j) = rw f at b.is in
-            let same : j ≡ n = u.0 in
-            let l : suc at ≤ c.at.0 = t.2.forward in (
+      module _ {x' : List ℕ} {r : Result Listed Refusal} (w' : FinishElementIs s at items v (back 8 table y) x' r) where
+        parting : (o : Valued) → Value s at left (items + 1) y z (Ok o)
+            → ItemIs 0 (element_item items o.items o.kind o.text o.size (doc at)) (back 8 table y) x' → AfterMemberIs 93 s o.next.at.0 o.items r
+            → (q : Result Listed Refusal) → r ≡ q → AnElement s at left items x' z q
+        parting o t i b (Ok d) f =
+            let u : Behind 93 s o.next.at.0 o.items (Ok d) = rw f at b.is in
+            let same : d.items ≡ o.items = u.0 in
+            let l : suc at ≤ o.next.at.0 = t.2.forward in (
               t.0,
               rw same (parted-got 93 s (here ∙ t.1) u.3.1),
               record { forward = omega (arith, u.1); inside = u.2; more = omega (arith, t.2.more); few = omega (arith, t.2.few) },
-              rw same (element-held table y z x' (element_item items n k o w (doc at)) at items c.at.0 d.at.0 n t.0 in_table i refl refl
+              rw same (element-held table y z x' (element_item items o.items o.kind o.text o.size (doc at)) at items o.next.at.0 d.next.at.0 o.items t.0 in_table i refl refl
                   (omega (arith, t.2.more)) u.1 t.6),
             )
-        parting c n k o w t i b (Listed.Refused j p) f =
-            let u : Behind 93 s c.at.0 n (Listed.Refused j p) = rw f at b.is in
+        parting o t i b (Err d) f =
+            let u : Behind 93 s o.next.at.0 o.items (Err d) = rw f at b.is in
             (u.0, parted-fail 93 s (here ∙ t.1) u.1, u.2, u.3)
 
-        go : (q : Valued) → v ≡ q → ElementIs s at left items table text x' z r
-        go (Valued.Refused k p) e =
-            let t : Value s at left (items + 1) y z (Valued.Refused k p) = rw e at m.is in
-            let u : Lists s at items (back 8 table y) x' r (Valued.Refused k p) = rw e at w'.is in
+        go : (q : Result Valued Refusal) → v ≡ q → ElementIs s at left items table text x' z r
+        go (Err d) e =
+            let t : Value s at left (items + 1) y z (Err d) = rw e at m.is in
+            let u : Lists s at items (back 8 table y) x' r (Err d) = rw e at w'.is in
             record {
               is = rw u.0 (t.0, parted-rejected 93 s (here ∙ t.1), t.2, t.3);
               kept_table = ap length u.1 ∙ kept_back;
               kept-text = m.kept-text;
             }
-        go (Valued.Done c n k o w) e =
-            let t : Value s at left (items + 1) y z (Valued.Done c n k o w) = rw e at m.is in
-            let u : Lists s at items (back 8 table y) x' r (Valued.Done c n k o w) = rw e at w'.is in
-            record { is = parting c n k o w t u.0 u.1 r refl; kept_table = u.0.kept ∙ kept_back; kept-text = m.kept-text }
+        go (Ok o) e =
+            let t : Value s at left (items + 1) y z (Ok o) = rw e at m.is in
+            let u : Lists s at items (back 8 table y) x' r (Ok o) = rw e at w'.is in
+            record { is = parting o t u.0 u.1 r refl; kept_table = u.0.kept ∙ kept_back; kept-text = m.kept-text }
 
         pub element-done : ElementIs s at left items table text x' z r
         element-done = go v refl

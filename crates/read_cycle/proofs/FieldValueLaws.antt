@@ -1,4 +1,5 @@
 -- One law for each answer of the reader of a field whose key was read.
+use Rattle.std.specs.Prelude.{Result, Ok, Err}
 use mathlib.Core.Path.{◌≡◌, refl, ap, ◌∙◌}
 use Prim.Native.Nat.{ℕ, suc, ◌+◌, ◌*◌, ◌-◌, ◌≤◌, ◌<◌}
 use mathlib.Core.List.{List, ◌∷◌}
@@ -9,9 +10,7 @@ use lib.ListN.{length}
 use Rattle.rules.specs.Refusals.{got, refused}
 use Rattle.rules.specs.Tree.{Key}
 use Rattle.rules.specs.Reading.{inside}
-use Rattle.text_chars.specs.declared.TextAt as chars
-use Rattle.text_chars.specs.declared.TextLen.{TextLen}
-use Rattle.text_chars.specs.declared.Cursor.{Cursor}
+use Rattle.text_chars.specs.declared.Refusal.{Refusal}
 use Rattle.text_chars.specs.Parts.{part, back, part_length, back-length}
 use Rattle.doc_items.specs.Keys.{HeldKeys, key_sizes}
 use Rattle.read_values.specs.Fields.Keys.{PutIs}
@@ -59,7 +58,7 @@ module _ {s : List ℕ} {there at left items count : ℕ} {marks table text : Li
     text-room = omega (arith, a.text-room, a.forward, a.inside, part_length (2 * (there - at)) text);
   }
 
-  module _ {y z : List ℕ} {v : Valued}
+  module _ {y z : List ℕ} {v : Result Valued Refusal}
       (m : ValueIs s there (left + 1 - count) (items + count) (part (8 * count) table) (part (2 * (there - at)) text) y z v) where
     kept_back : length (back (8 * count) table y) ≡ length table
     kept_back = back-length (8 * count) table y keyed-table m.kept_table
@@ -70,10 +69,10 @@ module _ {s : List ℕ} {there at left items count : ℕ} {marks table text : Li
     pub keyed-named : FinishFieldAsked s at items count marks v (back (8 * count) table y)
     keyed-named = record { is = go v refl }
       where
-        go : (q : Valued) → v ≡ q → Nameable s at items count marks (back (8 * count) table y) q
-        go (Valued.Refused k p) e = tt
-        go (Valued.Done d n k o w) e =
-            let t : Value s there (left + 1 - count) (items + count) y z (Valued.Done d n k o w) = rw e at m.is in (
+        go : (q : Result Valued Refusal) → v ≡ q → Nameable s at items count marks (back (8 * count) table y) q
+        go (Err d) e = tt
+        go (Ok o) e =
+            let t : Value s there (left + 1 - count) (items + count) y z (Ok o) = rw e at m.is in (
               a.short,
               omega (arith, a.forward, a.inside, a.short),
               omega (arith, t.2.more),
@@ -96,45 +95,46 @@ module _ {s : List ℕ} {there at left items count : ℕ} {marks table text : Li
               },
             )
 
-    module _ {closing : ℕ} {x' : List ℕ} {r : Listed} (w' : FinishFieldIs s at closing items count marks v (back (8 * count) table y) x' r) where
-      kept : (q : Valued) → v ≡ q → length x' ≡ length table
-      kept (Valued.Refused k p) e =
-          let u : Named s at closing items count marks (back (8 * count) table y) x' r (Valued.Refused k p) = rw e at w'.is in
+    module _ {closing : ℕ} {x' : List ℕ} {r : Result Listed Refusal} (w' : FinishFieldIs s at closing items count marks v (back (8 * count) table y) x' r) where
+      kept : (q : Result Valued Refusal) → v ≡ q → length x' ≡ length table
+      kept (Err d) e =
+          let u : Named s at closing items count marks (back (8 * count) table y) x' r (Err d) = rw e at w'.is in
           ap length u.1 ∙ kept_back
-      kept (Valued.Done d n k o w) e =
-          let u : Named s at closing items count marks (back (8 * count) table y) x' r (Valued.Done d n k o w) = rw e at w'.is in
+      kept (Ok o) e =
+          let u : Named s at closing items count marks (back (8 * count) table y) x' r (Ok o) = rw e at w'.is in
           u.0.kept ∙ kept_back
 
       module _ (k : Key) (ks : List Key) (held : HeldKeys 0 0 (k ∷ ks) text marks) (c : count ≡ suc (length ks)) (sizes : key_sizes (k ∷ ks) + at ≤ there) where
-        parting : (d : Cursor) (n kind : ℕ) (o : chars.TextAt) (w : TextLen) → Value s there (left + 1 - count) (items + count) y z (Valued.Done d n kind o w)
-            → PutIs marks (back (8 * count) table y) x' count (n - items) (2 * at) kind o.0 w.0 → AfterMemberIs closing s d.at.0 n r → (q : Listed) → r ≡ q
+        parting : (o : Valued) → Value s there (left + 1 - count) (items + count) y z (Ok o)
+            → PutIs marks (back (8 * count) table y) x' count (o.items - items) (2 * at) o.kind o.text.0 o.size.0
+            → AfterMemberIs closing s o.next.at.0 o.items r → (q : Result Listed Refusal) → r ≡ q
             → Keyed closing s there at left items count x' (back (2 * (there - at)) text z) k ks q
-        parting d n kind o w t p b (Listed.Done i j) l =
-            let u : Behind closing s d.at.0 n (Listed.Done i j) = rw l at b.is in
-            let same : j ≡ n = u.0 in
-            let far : suc there ≤ d.at.0 = t.2.forward in
-            let whole : valued s (nesting_of (left + 1 - count)) there (items + count) k ks ≡ got (record { key = k; value = inside ks t.0 }) d.at.0 n = rw t.1 refl in (
+        parting o t p b (Ok i) l =
+            let u : Behind closing s o.next.at.0 o.items (Ok i) = rw l at b.is in
+            let same : i.items ≡ o.items = u.0 in
+            let far : suc there ≤ o.next.at.0 = t.2.forward in
+            let whole : valued s (nesting_of (left + 1 - count)) there (items + count) k ks ≡ got (record { key = k; value = inside ks t.0 }) o.next.at.0 o.items = rw t.1 refl in (
               record { key = k; value = inside ks t.0 },
               rw same (parted-got closing s whole u.3.1),
               record { forward = omega (arith, u.1, a.forward); inside = u.2; more = omega (arith, t.2.more); few = omega (arith, t.2.few) },
-              rw same (field-held table y x' text z marks at there d.at.0 i.at.0 items n count kind o.0 w.0 k ks t.0 p
+              rw same (field-held table y x' text z marks at there o.next.at.0 i.next.at.0 items o.items count o.kind o.text.0 o.size.0 k ks t.0 p
                   c keyed-table keyed-text held sizes keyed-forward (omega arith) u.1 t.2.more t.6),
             )
-        parting d n kind o w t p b (Listed.Refused j q) l =
-            let u : Behind closing s d.at.0 n (Listed.Refused j q) = rw l at b.is in
-            let whole : valued s (nesting_of (left + 1 - count)) there (items + count) k ks ≡ got (record { key = k; value = inside ks t.0 }) d.at.0 n = rw t.1 refl in
+        parting o t p b (Err d) l =
+            let u : Behind closing s o.next.at.0 o.items (Err d) = rw l at b.is in
+            let whole : valued s (nesting_of (left + 1 - count)) there (items + count) k ks ≡ got (record { key = k; value = inside ks t.0 }) o.next.at.0 o.items = rw t.1 refl in
             (u.0, parted-fail closing s whole u.1, u.2, u.3)
 
-        go : (q : Valued) → v ≡ q → Keyed closing s there at left items count x' (back (2 * (there - at)) text z) k ks r
-        go (Valued.Refused j p) e =
-            let t : Value s there (left + 1 - count) (items + count) y z (Valued.Refused j p) = rw e at m.is in
-            let u : Named s at closing items count marks (back (8 * count) table y) x' r (Valued.Refused j p) = rw e at w'.is in
+        go : (q : Result Valued Refusal) → v ≡ q → Keyed closing s there at left items count x' (back (2 * (there - at)) text z) k ks r
+        go (Err d) e =
+            let t : Value s there (left + 1 - count) (items + count) y z (Err d) = rw e at m.is in
+            let u : Named s at closing items count marks (back (8 * count) table y) x' r (Err d) = rw e at w'.is in
             let whole : valued s (nesting_of (left + 1 - count)) there (items + count) k ks ≡ refused t.0 = rw t.1 refl in
             rw u.0 (t.0, parted-rejected closing s whole, t.2, t.3)
-        go (Valued.Done d n kind o w) e =
-            let t : Value s there (left + 1 - count) (items + count) y z (Valued.Done d n kind o w) = rw e at m.is in
-            let u : Named s at closing items count marks (back (8 * count) table y) x' r (Valued.Done d n kind o w) = rw e at w'.is in
-            parting d n kind o w t u.0 u.1 r refl
+        go (Ok o) e =
+            let t : Value s there (left + 1 - count) (items + count) y z (Ok o) = rw e at m.is in
+            let u : Named s at closing items count marks (back (8 * count) table y) x' r (Ok o) = rw e at w'.is in
+            parting o t u.0 u.1 r refl
 
       pub keyed-done : FieldValueIs closing s there at left items count marks table text x' (back (2 * (there - at)) text z) r
       keyed-done = record { is = λ k ks h c l. go k ks h c l v refl; kept_table = kept v refl; kept-text = kept-text }

@@ -1,4 +1,6 @@
 -- One law for each answer of the reader of a piece.
+use Rattle.std.specs.Prelude.{Result, Ok, Err, Some, None}
+use Rattle.std.specs.declared.option.Option.{Option}
 use mathlib.Core.Path.{◌≡◌, refl, sym}
 use Prim.Native.Nat.{ℕ, ◌+◌, ◌*◌, ◌-◌, ◌≤◌, ◌<◌}
 use mathlib.Core.Bool.{true}
@@ -10,8 +12,8 @@ use lib.ListN.{length}
 use Rattle.rules.specs.Sizes.{max_items}
 use Rattle.rules.specs.Refusals.{placed}
 use Rattle.rules.specs.Reading.{brace, bracket, dollar, simple_start, value_in}
-use Rattle.text_chars.specs.declared.DocAt.{DocAt}
 use Rattle.text_chars.specs.declared.Cursor.{Cursor}
+use Rattle.text_chars.specs.declared.Refusal.{Refusal}
 use Rattle.text_chars.specs.Parts.{part, back, part_length, back-length}
 use Rattle.read_grammar.specs.Decisions.{closes}
 use Rattle.read_grammar.specs.Limits.Limits.{Begins, PieceStartIs}
@@ -20,26 +22,28 @@ use Rattle.read_steps.specs.Steps.{ScalarPieceAsked, Plain, ScalarPieceIs}
 use Rattle.read_references.specs.ReferencePieces.{ReferencePieceAsked, Linked, ReferencePieceIs}
 use Rattle.read_grammar.specs.declared.limits.Beginning.{Beginning}
 use Rattle.read_values.specs.declared.pieces.Listed.{Listed}
-use Rattle.read_values.specs.declared.pieces.PieceRead.{PieceRead}
+use Rattle.read_values.specs.declared.pieces.PieceItem.{PieceItem}
 use Rattle.read_cycle.specs.Clauses.{Asked, Array, Object, ArrayIs, ObjectIs, PieceAsked, Pieced, PieceIs}
 use Rattle.read_cycle.specs.Measures.{need}
 use Rattle.read_cycle.proofs.Piecing.{scalar-refused, scalar-found, dollar-refused, dollar-found, brace-refused, brace-found, bracket-refused, bracket-found}
 
-module _ {s : List ℕ} {at w left items : ℕ} {x t : List ℕ} (a : PieceAsked s at w left items x t) {b : Beginning} (h : PieceStartIs s at left items b) where
-  pub piece-none : b ≡ Beginning.Nothing → PieceIs s at w left items x t x t PieceRead.End
-  piece-none e =
-      let u : Begins s at left items Beginning.Nothing = rw e at h.is in
-      record { is = u; kept_table = refl; kept-text = refl }
-
-  pub piece-refused : {k : ℕ} {p : DocAt} → b ≡ Beginning.Refused k p → PieceIs s at w left items x t x t (PieceRead.Refused k p)
-  piece-refused {k} {p} e =
-      let u : Begins s at left items (Beginning.Refused k p) = rw e at h.is in
+module _ {s : List ℕ} {at w left items : ℕ} {x t : List ℕ} (a : PieceAsked s at w left items x t) where
+  pub piece-refused : {d : Refusal} → PieceStartIs s at left items (Err d) → PieceIs s at w left items x t x t (Err d)
+  piece-refused h =
+      let u = h.is in
       record { is = (u.0, u.1, (placed 8 at, u.4 (value_in s), u.2, u.3)); kept_table = refl; kept-text = refl }
+
+module _ {s : List ℕ} {at w left items : ℕ} {x t : List ℕ} (a : PieceAsked s at w left items x t) {b : Beginning}
+    (h : PieceStartIs s at left items (Ok b)) where
+  pub piece-none : b ≡ Beginning.Nothing → PieceIs s at w left items x t x t (Ok None)
+  piece-none e =
+      let u : Begins s at left items (Ok Beginning.Nothing) = rw e at h.is in
+      record { is = u; kept_table = refl; kept-text = refl }
 
   -- ---- simple pieces and substitutions
 
   module _ (e : b ≡ Beginning.Scalar) where
-    simple : Begins s at left items Beginning.Scalar
+    simple : Begins s at left items (Ok Beginning.Scalar)
     simple = rw e at h.is
 
     pub piece-plain-asks : ScalarPieceAsked s at items t
@@ -51,20 +55,20 @@ module _ {s : List ℕ} {at w left items : ℕ} {x t : List ℕ} (a : PieceAsked
       room = omega (arith, a.text-room, a.before, simple.2);
     }
 
-    pub piece-plain : {t' : List ℕ} {r : PieceRead} → ScalarPieceIs s at w items t t' r → PieceIs s at w left items x t x t' r
+    pub piece-plain : {t' : List ℕ} {r : Result (Option PieceItem) Refusal} → ScalarPieceIs s at w items t t' r → PieceIs s at w left items x t x t' r
     piece-plain {t'} {r} m = record { is = go r refl; kept_table = refl; kept-text = m.kept }
       where
-        go : (q : PieceRead) → r ≡ q → Pieced s at w left items x t' q
-        go (PieceRead.Done f) g =
-            let u : Plain s at w items t' (PieceRead.Done f) = rw g at m.is in
+        go : (q : Result (Option PieceItem) Refusal) → r ≡ q → Pieced s at w left items x t' q
+        go (Ok (Some f)) g =
+            let u : Plain s at w items t' (Ok (Some f)) = rw g at m.is in
             scalar-found a simple.1 simple.0 f u.1 u.2 u.3 u.4 u.5 t' u.6 u.7 u.8 u.9 u.10 x
-        go PieceRead.End g = absurd (rw g at m.is)
-        go (PieceRead.Refused k p) g =
-            let u : Plain s at w items t' (PieceRead.Refused k p) = rw g at m.is in
+        go (Ok None) g = absurd (rw g at m.is)
+        go (Err d) g =
+            let u : Plain s at w items t' (Err d) = rw g at m.is in
             (simple_start, simple.0, (u.0, scalar-refused a simple.1 u.1, u.2, u.3))
 
   module _ (e : b ≡ Beginning.Reference) where
-    linked : Begins s at left items Beginning.Reference
+    linked : Begins s at left items (Ok Beginning.Reference)
     linked = rw e at h.is
 
     pub piece-linked-asks : ReferencePieceAsked s at items t
@@ -77,16 +81,16 @@ module _ {s : List ℕ} {at w left items : ℕ} {x t : List ℕ} (a : PieceAsked
       room = omega (arith, a.text-room, a.before, linked.2);
     }
 
-    pub piece-linked : {t' : List ℕ} {r : PieceRead} → ReferencePieceIs s at w items t t' r → PieceIs s at w left items x t x t' r
+    pub piece-linked : {t' : List ℕ} {r : Result (Option PieceItem) Refusal} → ReferencePieceIs s at w items t t' r → PieceIs s at w left items x t x t' r
     piece-linked {t'} {r} m = record { is = go r refl; kept_table = refl; kept-text = m.kept }
       where
-        go : (q : PieceRead) → r ≡ q → Pieced s at w left items x t' q
-        go (PieceRead.Done f) g =
-            let u : Linked s at w items t' (PieceRead.Done f) = rw g at m.is in
+        go : (q : Result (Option PieceItem) Refusal) → r ≡ q → Pieced s at w left items x t' q
+        go (Ok (Some f)) g =
+            let u : Linked s at w items t' (Ok (Some f)) = rw g at m.is in
             dollar-found a linked.1 linked.0 f u.1 u.2 u.3 u.4 u.5 u.6 u.7 u.8 t' u.9 u.10 u.11 u.12 x
-        go PieceRead.End g = absurd (rw g at m.is)
-        go (PieceRead.Refused k p) g =
-            let u : Linked s at w items t' (PieceRead.Refused k p) = rw g at m.is in
+        go (Ok None) g = absurd (rw g at m.is)
+        go (Err d) g =
+            let u : Linked s at w items t' (Err d) = rw g at m.is in
             (dollar, linked.0, (u.0, dollar-refused a linked.1 u.1, u.2, u.3))
 
   -- ---- objects and arrays
@@ -106,7 +110,7 @@ module _ {s : List ℕ} {at w left items : ℕ} {x t : List ℕ} (a : PieceAsked
   kept c z inside e l = back-length (2 * c.at.0 - w) t z (omega (arith, a.text-room, a.before)) l
 
   module _ {c : Cursor} (e : b ≡ Beginning.Object c) where
-    opens : Begins s at left items (Beginning.Object c)
+    opens : Begins s at left items (Ok (Beginning.Object c))
     opens = rw e at h.is
 
     pub piece-object-asks : Asked s c.at.0 (left - 1) (items + 1) x (part (2 * c.at.0 - w) t)
@@ -127,18 +131,18 @@ module _ {s : List ℕ} {at w left items : ℕ} {x t : List ℕ} (a : PieceAsked
     pub piece-object-deep : 1 ≤ left
     piece-object-deep = opens.2
 
-    told : (y z : List ℕ) (r : Listed) (q : PieceRead) → Object s (at + 1) (left - 1) (items + 1) y z 125 r → Nested r 7 q → Pieced s at w left items y (back (2 * (at + 1) - w) t z) q
-    told y z (Listed.Done d n) (PieceRead.Done f) u v =
-        let i : d ≡ f.next = sym v.0 in
-        let j : n ≡ f.items = sym v.1 in
-        let u' : Object s (at + 1) (left - 1) (items + 1) y z 125 (Listed.Done f.next f.items) = rw (sym i, sym j) u in
+    told : (y z : List ℕ) (r : Result Listed Refusal) (q : Result (Option PieceItem) Refusal) → Object s (at + 1) (left - 1) (items + 1) y z 125 r → Nested r 7 q → Pieced s at w left items y (back (2 * (at + 1) - w) t z) q
+    told y z (Ok o) (Ok (Some f)) u v =
+        let i : o.next ≡ f.next = sym v.0 in
+        let j : o.items ≡ f.items = sym v.1 in
+        let u' : Object s (at + 1) (left - 1) (items + 1) y z 125 (Ok (record { next = f.next; items = f.items })) = rw (sym i, sym j) u in
         brace-found a opens.1 opens.2 opens.3 f v.3 v.4 v.5 y z u'.2 opens.0 v.2 u'.1 u'.3
-    told y z (Listed.Done d n) PieceRead.End u v = absurd v
-    told y z (Listed.Done d n) (PieceRead.Refused k p) u v = absurd v
-    told y z (Listed.Refused k p) q u v =
+    told y z (Ok o) (Ok None) u v = absurd v
+    told y z (Ok o) (Err d) u v = absurd v
+    told y z (Err d) q u v =
         rw v (brace, opens.0, (u.0, brace-refused a opens.1 opens.2 u.1, u.2, u.3))
 
-    pub piece-object : {y z : List ℕ} {r : Listed} {q : PieceRead} → ObjectIs 125 s c.at.0 (left - 1) (items + 1) x (part (2 * c.at.0 - w) t) y z r → ContainerPieceIs r 7 q
+    pub piece-object : {y z : List ℕ} {r : Result Listed Refusal} {q : Result (Option PieceItem) Refusal} → ObjectIs 125 s c.at.0 (left - 1) (items + 1) x (part (2 * c.at.0 - w) t) y z r → ContainerPieceIs r 7 q
         → PieceIs s at w left items x t y (back (2 * c.at.0 - w) t z) q
     piece-object {y} {z} {r} {q} m n =
         let f : Object s c.at.0 (left - 1) (items + 1) y z 125 r → Pieced s at w left items y (back (2 * c.at.0 - w) t z) q =
@@ -146,7 +150,7 @@ module _ {s : List ℕ} {at w left items : ℕ} {x t : List ℕ} (a : PieceAsked
         record { is = f m.is; kept_table = m.kept_table; kept-text = kept c z opens.3 opens.4 m.kept-text }
 
   module _ {c : Cursor} (e : b ≡ Beginning.Array c) where
-    lists : Begins s at left items (Beginning.Array c)
+    lists : Begins s at left items (Ok (Beginning.Array c))
     lists = rw e at h.is
 
     pub piece-array-asks : Asked s c.at.0 (left - 1) (items + 1) x (part (2 * c.at.0 - w) t)
@@ -167,18 +171,18 @@ module _ {s : List ℕ} {at w left items : ℕ} {x t : List ℕ} (a : PieceAsked
     pub piece-array-deep : 1 ≤ left
     piece-array-deep = lists.2
 
-    listed : (y z : List ℕ) (r : Listed) (q : PieceRead) → Array s (at + 1) (left - 1) (items + 1) y z r → Nested r 6 q → Pieced s at w left items y (back (2 * (at + 1) - w) t z) q
-    listed y z (Listed.Done d n) (PieceRead.Done f) u v =
-        let i : d ≡ f.next = sym v.0 in
-        let j : n ≡ f.items = sym v.1 in
-        let u' : Array s (at + 1) (left - 1) (items + 1) y z (Listed.Done f.next f.items) = rw (sym i, sym j) u in
+    listed : (y z : List ℕ) (r : Result Listed Refusal) (q : Result (Option PieceItem) Refusal) → Array s (at + 1) (left - 1) (items + 1) y z r → Nested r 6 q → Pieced s at w left items y (back (2 * (at + 1) - w) t z) q
+    listed y z (Ok o) (Ok (Some f)) u v =
+        let i : o.next ≡ f.next = sym v.0 in
+        let j : o.items ≡ f.items = sym v.1 in
+        let u' : Array s (at + 1) (left - 1) (items + 1) y z (Ok (record { next = f.next; items = f.items })) = rw (sym i, sym j) u in
         bracket-found a lists.1 lists.2 lists.3 f v.3 v.4 v.5 y z u'.2 lists.0 v.2 u'.1 u'.3
-    listed y z (Listed.Done d n) PieceRead.End u v = absurd v
-    listed y z (Listed.Done d n) (PieceRead.Refused k p) u v = absurd v
-    listed y z (Listed.Refused k p) q u v =
+    listed y z (Ok o) (Ok None) u v = absurd v
+    listed y z (Ok o) (Err d) u v = absurd v
+    listed y z (Err d) q u v =
         rw v (bracket, lists.0, (u.0, bracket-refused a lists.1 lists.2 u.1, u.2, u.3))
 
-    pub piece-array : {y z : List ℕ} {r : Listed} {q : PieceRead} → ArrayIs s c.at.0 (left - 1) (items + 1) x (part (2 * c.at.0 - w) t) y z r → ContainerPieceIs r 6 q
+    pub piece-array : {y z : List ℕ} {r : Result Listed Refusal} {q : Result (Option PieceItem) Refusal} → ArrayIs s c.at.0 (left - 1) (items + 1) x (part (2 * c.at.0 - w) t) y z r → ContainerPieceIs r 6 q
         → PieceIs s at w left items x t y (back (2 * c.at.0 - w) t z) q
     piece-array {y} {z} {r} {q} m n =
         let f : Array s c.at.0 (left - 1) (items + 1) y z r → Pieced s at w left items y (back (2 * c.at.0 - w) t z) q =

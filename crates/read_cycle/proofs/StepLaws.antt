@@ -1,15 +1,17 @@
 -- One law for each answer of the reader of one piece more.
+use Rattle.std.specs.Prelude.{Result, Ok, Err, Some, None}
+use Rattle.std.specs.declared.option.Option.{Option}
 use mathlib.Core.Path.{◌≡◌, refl, ap, ◌∙◌}
 use Prim.Native.Nat.{ℕ, ◌+◌, ◌-◌, ◌≤◌, ◌<◌}
 use mathlib.Core.List.{List}
 use native.Mathlib.Omega.{arith}
 use lib.ListN.{length}
+use Rattle.text_chars.specs.declared.Refusal.{Refusal}
 use Rattle.text_chars.specs.Parts.{part, back, part_length, back-length}
 use Rattle.read_values.specs.declared.Run.{Run}
-use Rattle.read_values.specs.Pieces.Pieces.{More, AddPieceIs}
+use Rattle.read_values.specs.Pieces.Pieces.{AddPieceIs}
 use Rattle.read_steps.specs.Steps.{PutPieceIs, Placeable, FinishPieceAsked, Placed, FinishPieceIs}
 use Rattle.read_values.specs.declared.pieces.PieceItem.{PieceItem}
-use Rattle.read_values.specs.declared.pieces.PieceRead.{PieceRead}
 use Rattle.read_values.specs.declared.pieces.ValueStep.{ValueStep}
 use Rattle.read_cycle.specs.Clauses.{PieceAsked, FoundIs, Pieced, PieceIs, StepAsked, Stepped, StepIs}
 use Rattle.read_cycle.specs.Measures.{need}
@@ -33,7 +35,7 @@ module _ {s : List ℕ} {at from used : ℕ} {run : Run} {left items : ℕ} {x t
     text-room = omega (arith, a.text-room, step-text, part_length (at - from) t);
   }
 
-  module _ {y z : List ℕ} {r : PieceRead} (m : PieceIs s at (used + (at - from)) left items (part 8 x) (part (at - from) t) y z r) where
+  module _ {y z : List ℕ} {r : Result (Option PieceItem) Refusal} (m : PieceIs s at (used + (at - from)) left items (part 8 x) (part (at - from) t) y z r) where
     kept_table : length (back 8 x y) ≡ length x
     kept_table = back-length 8 x y step-table m.kept_table
 
@@ -43,10 +45,10 @@ module _ {s : List ℕ} {at from used : ℕ} {run : Run} {left items : ℕ} {x t
     pub step-placed : FinishPieceAsked s at from used run items r (back 8 x y) (back (at - from) t z)
     step-placed = record { is = go r refl }
       where
-        go : (q : PieceRead) → r ≡ q → Placeable s at from used run items (back 8 x y) (back (at - from) t z) q
-        go PieceRead.End e = tt
-        go (PieceRead.Refused k p) e = tt
-        go (PieceRead.Done f) e =
+        go : (q : Result (Option PieceItem) Refusal) → r ≡ q → Placeable s at from used run items (back 8 x y) (back (at - from) t z) q
+        go (Ok None) e = tt
+        go (Err d) e = tt
+        go (Ok (Some f)) e =
             let found : FoundIs s at (used + (at - from)) left items y z f = rw e at m.is in (
               record {
                 short = a.short;
@@ -70,31 +72,25 @@ module _ {s : List ℕ} {at from used : ℕ} {run : Run} {left items : ℕ} {x t
               },
             )
 
-    module _ {x' t' : List ℕ} {v : ValueStep} (q : FinishPieceIs s at from used run items r (back 8 x y) (back (at - from) t z) x' t' v) where
+    module _ {x' t' : List ℕ} {v : Result (Option ValueStep) Refusal} (q : FinishPieceIs s at from used run items r (back 8 x y) (back (at - from) t z) x' t' v) where
       found-more : (f : PieceItem) → FoundIs s at (used + (at - from)) left items y z f → PutPieceIs s at from used items f (back 8 x y) (back (at - from) t z) x' t'
-          → AddPieceIs run at f v → (w : ValueStep) → v ≡ w → Stepped s at from used run left items x' t' w
-      found-more f found p n (ValueStep.More c k longer used') g =
-          let u : More run at f (ValueStep.More c k longer used') = rw g at n.is in
-          let i : c ≡ f.next = u.0 in
-          let j : k ≡ f.items = u.1 in
-          rw (i, j) (more-read a found m.kept_table m.kept-text p u.2 u.3 u.4)
-      found-more f found p n ValueStep.End g = absurd (rw g at n.is)
-      found-more f found p n (ValueStep.Refused k l) g = absurd (rw g at n.is)
+          → (w : ValueStep) → AddPieceIs run at f w → Stepped s at from used run left items x' t' (Ok (Some w))
+      found-more f found p w n = rw (n.next, n.items) (more-read a found m.kept_table m.kept-text p n.run-is n.simple n.other)
 
-      go : (b : PieceRead) → r ≡ b → StepIs s at from used run left items x t x' t' v
-      go PieceRead.End e =
-          let u : Pieced s at (used + (at - from)) left items y z PieceRead.End = rw e at m.is in
-          let w : Placed s at from used run items (back 8 x y) (back (at - from) t z) x' t' v PieceRead.End = rw e at q.is in
+      go : (b : Result (Option PieceItem) Refusal) → r ≡ b → StepIs s at from used run left items x t x' t' v
+      go (Ok None) e =
+          let u : Pieced s at (used + (at - from)) left items y z (Ok None) = rw e at m.is in
+          let w : Placed s at from used run items (back 8 x y) (back (at - from) t z) x' t' v (Ok None) = rw e at q.is in
           record { is = rw w.0 u; kept_table = ap length w.1 ∙ kept_table; kept-text = ap length w.2 ∙ kept-text }
-      go (PieceRead.Refused k p) e =
-          let u : Pieced s at (used + (at - from)) left items y z (PieceRead.Refused k p) = rw e at m.is in
-          let w : Placed s at from used run items (back 8 x y) (back (at - from) t z) x' t' v (PieceRead.Refused k p) = rw e at q.is in
+      go (Err d) e =
+          let u : Pieced s at (used + (at - from)) left items y z (Err d) = rw e at m.is in
+          let w : Placed s at from used run items (back 8 x y) (back (at - from) t z) x' t' v (Err d) = rw e at q.is in
           record { is = rw w.0 u; kept_table = ap length w.1 ∙ kept_table; kept-text = ap length w.2 ∙ kept-text }
-      go (PieceRead.Done f) e =
+      go (Ok (Some f)) e =
           let found : FoundIs s at (used + (at - from)) left items y z f = rw e at m.is in
-          let w : Placed s at from used run items (back 8 x y) (back (at - from) t z) x' t' v (PieceRead.Done f) = rw e at q.is in
+          let w : Placed s at from used run items (back 8 x y) (back (at - from) t z) x' t' v (Ok (Some f)) = rw e at q.is in
           record {
-            is = found-more f found w.0 w.1 v refl;
+            is = rw w.1.1 (found-more f found w.0 w.1.0 w.1.2);
             kept_table = w.0.item.kept ∙ kept_table;
             kept-text = w.0.gap.kept ∙ kept-text;
           }

@@ -1,4 +1,6 @@
 -- One law for each answer of the reader of a value.
+use Rattle.std.specs.Prelude.{Result, Ok, Err, Some, None}
+use Rattle.std.specs.declared.option.Option.{Option}
 use mathlib.Core.Path.{◌≡◌, refl, sym, ap, ◌∙◌}
 use mathlib.Core.Logic.{inl, inr}
 use Prim.Native.Nat.{ℕ, ◌+◌, ◌*◌, ◌-◌, ◌≤◌, ◌<◌}
@@ -15,7 +17,7 @@ use Rattle.rules.specs.Tree.{Pieces}
 use Rattle.rules.specs.Reading.{Start, start_of, piece_at, text_joined, judge_value, value_in}
 use Rattle.theory.specs.ValueSteps.{value-pieces}
 use Rattle.text_chars.specs.declared.DocAt.{DocAt}
-use Rattle.text_chars.specs.declared.TextAt as chars
+use Rattle.text_chars.specs.declared.Refusal.{Refusal}
 use Rattle.text_chars.specs.declared.Cursor.{Cursor}
 use Rattle.text_scan.specs.Scan.{EndIs}
 use Rattle.doc_items.specs.Moving.{move-spells, move-pieces}
@@ -82,7 +84,7 @@ module _ {s : List ℕ} {at₀ left items₀ : ℕ} {table₀ text₀ : List ℕ
   pub asks-finish : FinishValueAsked s at (2 * at₀) used
   asks-finish = record { short = a.short; inside = J.inside; forward = J.used_low }
 
-  module _ {y z : List ℕ} {r : ValueStep} (m : StepIs s at from used run left items (part (8 * (items - items₀)) x) (part (used - 2 * at₀) t) y z r) where
+  module _ {y z : List ℕ} {r : Result (Option ValueStep) Refusal} (m : StepIs s at from used run left items (part (8 * (items - items₀)) x) (part (used - 2 * at₀) t) y z r) where
     kept_table : length (back (8 * (items - items₀)) x y) ≡ length table₀
     kept_table = back-length (8 * (items - items₀)) x y in_table m.kept_table ∙ J.kept_table
 
@@ -96,10 +98,10 @@ module _ {s : List ℕ} {at₀ left items₀ : ℕ} {table₀ text₀ : List ℕ
         go true h = (start, ap (start_of s) (sym (J.first (eqb-true run.count 0 h)).0) ∙ e)
         go false h = let b = J.begun (eqb-false run.count 0 h) in (b.0, b.1)
 
-    pub refused : {k : ℕ} {p : DocAt} → r ≡ ValueStep.Refused k p
-        → ValueIs s at₀ left items₀ table₀ text₀ (back (8 * (items - items₀)) x y) (back (used - 2 * at₀) t z) (Valued.Refused k p)
-    refused {k} {p} e =
-        let u : Stepped s at from used run left items y z (ValueStep.Refused k p) = rw e at m.is in
+    pub refused : {d : Refusal} → r ≡ Err d
+        → ValueIs s at₀ left items₀ table₀ text₀ (back (8 * (items - items₀)) x y) (back (used - 2 * at₀) t z) (Err d)
+    refused {d} e =
+        let u : Stepped s at from used run left items y z (Err d) = rw e at m.is in
         let whole = P.rest-refused (piece_at (value_in s) s (nesting_of left)) s J.rest u.1 u.2.1 in
         let f = first u.0 u.1 in
         let l : 1 ≤ nesting_of left = omega (arith, a.nested) in
@@ -114,19 +116,19 @@ module _ {s : List ℕ} {at₀ left items₀ : ℕ} {table₀ text₀ : List ℕ
           kept-text = kept-text;
         }
 
-    pub again : {c d : Cursor} {n : ℕ} {longer : Run} {w : chars.TextAt} → r ≡ ValueStep.More c n longer w → EndIs s c.at.0 (after_inline s c.at.0) d
-        → Inv s at₀ left items₀ table₀ text₀ d.at.0 c.at.0 n w.0 longer (back (8 * (items - items₀)) x y) (back (used - 2 * at₀) t z)
-    again {c} {d} {n} {longer} {w} e h =
-        let u : MoreRead s at from used run left items y z c n longer w.0 = rw e at m.is in
+    pub again : {d : Cursor} {o : Option ValueStep} {v : ValueStep} → r ≡ Ok o → o ≡ Some v → EndIs s v.next.at.0 (after_inline s v.next.at.0) d
+        → Inv s at₀ left items₀ table₀ text₀ d.at.0 v.next.at.0 v.items v.used.0 v.run (back (8 * (items - items₀)) x y) (back (used - 2 * at₀) t z)
+    again {d} {o} {v} f g h =
+        let u : MoreRead s at from used run left items y z v.next v.items v.run v.used.0 = rw (f, g) at m.is in
         record { is = value-turn J a u m.kept_table m.kept-text d.at.0 h.is h.forward h.inside; asked = a }
 
-    pub space : {c : Cursor} {n : ℕ} {longer : Run} {w : chars.TextAt} → r ≡ ValueStep.More c n longer w → c.at.0 ≤ length s
-    space {c} {n} {longer} {w} e = let u : MoreRead s at from used run left items y z c n longer w.0 = rw e at m.is in u.reached.inside
+    pub space : {o : Option ValueStep} {v : ValueStep} → r ≡ Ok o → o ≡ Some v → v.next.at.0 ≤ length s
+    space {o} {v} f g = let u : MoreRead s at from used run left items y z v.next v.items v.run v.used.0 = rw (f, g) at m.is in u.reached.inside
 
-    pub less : {c d : Cursor} {n : ℕ} {longer : Run} {w : chars.TextAt} → r ≡ ValueStep.More c n longer w → EndIs s c.at.0 (after_inline s c.at.0) d
+    pub less : {d : Cursor} {o : Option ValueStep} {v : ValueStep} → r ≡ Ok o → o ≡ Some v → EndIs s v.next.at.0 (after_inline s v.next.at.0) d
         → length s - d.at.0 < length s - at
-    less {c} {d} {n} {longer} {w} e h =
-        let u : MoreRead s at from used run left items y z c n longer w.0 = rw e at m.is in
+    less {d} {o} {v} f g h =
+        let u : MoreRead s at from used run left items y z v.next v.items v.run v.used.0 = rw (f, g) at m.is in
         omega (arith, u.reached.forward, h.forward, h.inside)
 
     -- ---- the end
@@ -163,23 +165,23 @@ module _ {s : List ℕ} {at₀ left items₀ : ℕ} {table₀ text₀ : List ℕ
       kept-text = kept-text;
     }
 
-    module _ (e : r ≡ ValueStep.End) {v : Valued} (h : FinishIs s at run items (2 * at₀) used v) where
+    module _ (e : r ≡ Ok None) {v : Result Valued Refusal} (h : FinishIs s at run items (2 * at₀) used v) where
       stops : start_of s at ≡ none
-      stops = let u : Stepped s at from used run left items y z ValueStep.End = rw e at m.is in u
+      stops = let u : Stepped s at from used run left items y z (Ok None) = rw e at m.is in u
 
-      bad : (k : ℕ) (p : DocAt) → Finished s at J.done items (2 * at₀) used (Valued.Refused k p)
-          → Refuses (value_in s (nesting_of left) at₀ items₀) k p
+      bad : (d : Refusal) → Finished s at J.done items (2 * at₀) used (Err d)
+          → Refuses (value_in s (nesting_of left) at₀ items₀) d.number d.place
       unfolding same J
-      bad k p (inl u) = (not_allowed s at, value_none same a stops u.0, u.1, u.2)
-      bad k p (inr u) = (placed 11 p.0, value-odd same a stops u.1, u.0, refl)
+      bad d (inl u) = (not_allowed s at, value_none same a stops u.0, u.1, u.2)
+      bad d (inr u) = (placed 11 d.place.0, value-odd same a stops u.1, u.0, refl)
 
-      go : (q : Valued) → v ≡ q
+      go : (q : Result Valued Refusal) → v ≡ q
           → Value s at₀ left items₀ (back (8 * (items - items₀)) x y) (back (used - 2 * at₀) t z) q
       unfolding same J
-      go (Valued.Done c n k o w) f =
-          let u : Finished s at J.done items (2 * at₀) used (Valued.Done c n k o w) = rw f at (h.is J.done J.run_of) in
-          let i : c.at.0 ≡ at = u.0 in
-          let j : n ≡ items = u.1 in
+      go (Ok o) f =
+          let u : Finished s at J.done items (2 * at₀) used (Ok o) = rw f at (h.is J.done J.run_of) in
+          let i : o.next.at.0 ≡ at = u.0 in
+          let j : o.items ≡ items = u.1 in
           let v = u.2 in
           let comes = v.2 in
           let fits = value-fits same a stops comes v.3 v.4 v.5 in
@@ -192,9 +194,9 @@ module _ {s : List ℕ} {at₀ left items₀ : ℕ} {table₀ text₀ : List ℕ
             fits.2,
             value-shown same a stops comes v.3 v.4 v.5,
           )
-      go (Valued.Refused k p) f =
-          let u : Finished s at J.done items (2 * at₀) used (Valued.Refused k p) = rw f at (h.is J.done J.run_of) in
-          bad k p u
+      go (Err d) f =
+          let u : Finished s at J.done items (2 * at₀) used (Err d) = rw f at (h.is J.done J.run_of) in
+          bad d u
 
       pub ends : ValueIs s at₀ left items₀ table₀ text₀ (back (8 * (items - items₀)) x y) (back (used - 2 * at₀) t z) v
       ends = record { is = go v refl; kept_table = kept_table; kept-text = kept-text }

@@ -1,5 +1,6 @@
 -- What the readers of array, object and value promise: what the rules read, and that the table and the text part hold it.
-use Rattle.std.specs.Prelude.{◌≡◌, ℕ, suc, ◌+◌, ◌*◌, ◌-◌, ◌≤◌, ◌<◌, List, ◌∷◌, length}
+use Rattle.std.specs.Prelude.{Result, Ok, Err, Some, None, ◌≡◌, ℕ, suc, ◌+◌, ◌*◌, ◌-◌, ◌≤◌, ◌<◌, List, ◌∷◌, length}
+use Rattle.std.specs.declared.option.Option.{Option}
 use Rattle.std.proofs.Math.Option.{none, some}
 use Rattle.std.proofs.Math.Seq.{slice}
 use Rattle.rules.specs.Sizes.{max_document, max_nesting, max_items, max_path}
@@ -9,6 +10,7 @@ use Rattle.rules.specs.Pieces.{scalar_text}
 use Rattle.rules.specs.Tree.{Key, Node, simple, array, object, unresolved, Elements, no-elements, element, Fields, no_fields, field, no_pieces}
 use Rattle.rules.specs.Reading.{Start, start_of, Part, node, substitution, with_part, count_item, piece_at, FieldRead, inside, element_at, field_at, array_at, object_at, parted, value_in}
 use Rattle.text_chars.specs.declared.Cursor.{Cursor}
+use Rattle.text_chars.specs.declared.Refusal.{Refusal}
 use Rattle.doc_items.specs.Codes.{width, string_item, unresolved_item, optional_item, as_piece}
 use Rattle.doc_items.specs.Room.{number_bound}
 use Rattle.doc_items.specs.Holds.{Spells, ReferenceAt, Shown, ElementsAt, FieldsAt, PiecesAt}
@@ -21,7 +23,6 @@ use Rattle.read_values.specs.Pieces.Pieces.{Refuses}
 use Rattle.read_values.specs.declared.pieces.Listed.{Listed}
 use Rattle.read_values.specs.declared.pieces.Valued.{Valued}
 use Rattle.read_values.specs.declared.pieces.PieceItem.{PieceItem}
-use Rattle.read_values.specs.declared.pieces.PieceRead.{PieceRead}
 use Rattle.read_values.specs.declared.pieces.ValueStep.{ValueStep}
 
 -- how many nestings may still be opened inside the root's
@@ -60,64 +61,64 @@ module _ (s : List ℕ) (at left items : ℕ) where
   -- ---- lists
 
   module _ (table text : List ℕ) where
-    abbrev pub Array : Listed → Type 0
-    Array (Listed.Done c n) =
-        (es : Elements) × (array_at (value_in s) s (nesting_of left) at items ≡ got es c.at.0 n) × Reached s at items c.at.0 n
-        × ElementsAt (numbers table) (letters (2 * at) text) (2 * at) (2 * c.at.0) Free 0 (n - items) es
-    Array (Listed.Refused k p) = Refuses (array_at (value_in s) s (nesting_of left) at items) k p
+    abbrev pub Array : Result Listed Refusal → Type 0
+    Array (Ok v) =
+        (es : Elements) × (array_at (value_in s) s (nesting_of left) at items ≡ got es v.next.at.0 v.items) × Reached s at items v.next.at.0 v.items
+        × ElementsAt (numbers table) (letters (2 * at) text) (2 * at) (2 * v.next.at.0) Free 0 (v.items - items) es
+    Array (Err e) = Refuses (array_at (value_in s) s (nesting_of left) at items) e.number e.place
 
-    abbrev pub Object : ℕ → Listed → Type 0
-    Object closing (Listed.Done c n) =
-        (fs : Fields) × (object_at (value_in s) closing s (nesting_of left) at items ≡ got fs c.at.0 n) × Reached s at items c.at.0 n
-        × FieldsAt (numbers table) (letters (2 * at) text) (2 * at) (2 * c.at.0) Free 0 (n - items) fs
-    Object closing (Listed.Refused k p) = Refuses (object_at (value_in s) closing s (nesting_of left) at items) k p
+    abbrev pub Object : ℕ → Result Listed Refusal → Type 0
+    Object closing (Ok v) =
+        (fs : Fields) × (object_at (value_in s) closing s (nesting_of left) at items ≡ got fs v.next.at.0 v.items) × Reached s at items v.next.at.0 v.items
+        × FieldsAt (numbers table) (letters (2 * at) text) (2 * at) (2 * v.next.at.0) Free 0 (v.items - items) fs
+    Object closing (Err e) = Refuses (object_at (value_in s) closing s (nesting_of left) at items) e.number e.place
 
     -- ---- members, each with what parts it from the next
 
-    abbrev pub AnElement : Listed → Type 0
-    AnElement (Listed.Done c n) =
-        (nd : Node) × (parted_after 93 s (element_at (value_in s) s (nesting_of left) at items) ≡ got nd c.at.0 n)
-        × Reached s (suc at) items c.at.0 n
-        × ElementsAt (numbers table) (letters (2 * at) text) (2 * at) (2 * c.at.0) Free 0 (n - items) (element nd no-elements)
-    AnElement (Listed.Refused k p) = Refuses (parted_after 93 s (element_at (value_in s) s (nesting_of left) at items)) k p
+    abbrev pub AnElement : Result Listed Refusal → Type 0
+    AnElement (Ok v) =
+        (nd : Node) × (parted_after 93 s (element_at (value_in s) s (nesting_of left) at items) ≡ got nd v.next.at.0 v.items)
+        × Reached s (suc at) items v.next.at.0 v.items
+        × ElementsAt (numbers table) (letters (2 * at) text) (2 * at) (2 * v.next.at.0) Free 0 (v.items - items) (element nd no-elements)
+    AnElement (Err e) = Refuses (parted_after 93 s (element_at (value_in s) s (nesting_of left) at items)) e.number e.place
 
-    abbrev pub AField : ℕ → Listed → Type 0
-    AField closing (Listed.Done c n) =
-        (m : FieldRead) × (parted_after closing s (field_at (value_in s) s (nesting_of left) at items) ≡ got m c.at.0 n)
-        × Reached s (suc at) items c.at.0 n
-        × FieldsAt (numbers table) (letters (2 * at) text) (2 * at) (2 * c.at.0) Free 0 (n - items) (field m.key m.value no_fields)
-    AField closing (Listed.Refused k p) = Refuses (parted_after closing s (field_at (value_in s) s (nesting_of left) at items)) k p
+    abbrev pub AField : ℕ → Result Listed Refusal → Type 0
+    AField closing (Ok v) =
+        (m : FieldRead) × (parted_after closing s (field_at (value_in s) s (nesting_of left) at items) ≡ got m v.next.at.0 v.items)
+        × Reached s (suc at) items v.next.at.0 v.items
+        × FieldsAt (numbers table) (letters (2 * at) text) (2 * at) (2 * v.next.at.0) Free 0 (v.items - items) (field m.key m.value no_fields)
+    AField closing (Err e) = Refuses (parted_after closing s (field_at (value_in s) s (nesting_of left) at items)) e.number e.place
 
     -- ---- values
 
-    abbrev pub Value : Valued → Type 0
-    Value (Valued.Done c n k o z) =
-        (nd : Node) × (value_in s (nesting_of left) at items ≡ got nd c.at.0 n) × Reached s (suc at) items c.at.0 n
-        × (k ≤ unresolved_item) × (o.0 < number_bound) × (z.0 < number_bound)
-        × Shown (numbers table) (letters (2 * at) text) (2 * at) (2 * c.at.0) Free 0 k o.0 z.0 0 0 (n - items) nd
-    Value (Valued.Refused k p) = Refuses (value_in s (nesting_of left) at items) k p
+    abbrev pub Value : Result Valued Refusal → Type 0
+    Value (Ok v) =
+        (nd : Node) × (value_in s (nesting_of left) at items ≡ got nd v.next.at.0 v.items) × Reached s (suc at) items v.next.at.0 v.items
+        × (v.kind ≤ unresolved_item) × (v.text.0 < number_bound) × (v.size.0 < number_bound)
+        × Shown (numbers table) (letters (2 * at) text) (2 * at) (2 * v.next.at.0) Free 0 v.kind v.text.0 v.size.0 0 0 (v.items - items) nd
+    Value (Err e) = Refuses (value_in s (nesting_of left) at items) e.number e.place
 
-pub record ArrayIs (s : List ℕ) (at left items : ℕ) (table text table' text' : List ℕ) (r : Listed) : Type 0 where
+pub record ArrayIs (s : List ℕ) (at left items : ℕ) (table text table' text' : List ℕ) (r : Result Listed Refusal) : Type 0 where
   pub is : Array s at left items table' text' r
   pub kept_table : length table' ≡ length table
   pub kept-text : length text' ≡ length text
 
-pub record ObjectIs (closing : ℕ) (s : List ℕ) (at left items : ℕ) (table text table' text' : List ℕ) (r : Listed) : Type 0 where
+pub record ObjectIs (closing : ℕ) (s : List ℕ) (at left items : ℕ) (table text table' text' : List ℕ) (r : Result Listed Refusal) : Type 0 where
   pub is : Object s at left items table' text' closing r
   pub kept_table : length table' ≡ length table
   pub kept-text : length text' ≡ length text
 
-pub record ElementIs (s : List ℕ) (at left items : ℕ) (table text table' text' : List ℕ) (r : Listed) : Type 0 where
+pub record ElementIs (s : List ℕ) (at left items : ℕ) (table text table' text' : List ℕ) (r : Result Listed Refusal) : Type 0 where
   pub is : AnElement s at left items table' text' r
   pub kept_table : length table' ≡ length table
   pub kept-text : length text' ≡ length text
 
-pub record FieldIs (closing : ℕ) (s : List ℕ) (at left items : ℕ) (table text table' text' : List ℕ) (r : Listed) : Type 0 where
+pub record FieldIs (closing : ℕ) (s : List ℕ) (at left items : ℕ) (table text table' text' : List ℕ) (r : Result Listed Refusal) : Type 0 where
   pub is : AField s at left items table' text' closing r
   pub kept_table : length table' ≡ length table
   pub kept-text : length text' ≡ length text
 
-pub record ValueIs (s : List ℕ) (at left items : ℕ) (table text table' text' : List ℕ) (r : Valued) : Type 0 where
+pub record ValueIs (s : List ℕ) (at left items : ℕ) (table text table' text' : List ℕ) (r : Result Valued Refusal) : Type 0 where
   pub is : Value s at left items table' text' r
   pub kept_table : length table' ≡ length table
   pub kept-text : length text' ≡ length text
@@ -147,14 +148,14 @@ valued s nesting there items k ks =
     read_then (value_in s nesting there items) (λ node end n. got (record { key = k; value = inside ks node }) end n)
 
 module _ (closing : ℕ) (s : List ℕ) (there at left items count : ℕ) (table text : List ℕ) (k : Key) (ks : List Key) where
-  abbrev pub Keyed : Listed → Type 0
-  Keyed (Listed.Done c n) =
-      (m : FieldRead) × (parted_after closing s (valued s (nesting_of (left + 1 - count)) there (items + count) k ks) ≡ got m c.at.0 n)
-      × Reached s (suc at) items c.at.0 n
-      × FieldsAt (numbers table) (letters (2 * at) text) (2 * at) (2 * c.at.0) Free 0 (n - items) (field m.key m.value no_fields)
-  Keyed (Listed.Refused j p) = Refuses (parted_after closing s (valued s (nesting_of (left + 1 - count)) there (items + count) k ks)) j p
+  abbrev pub Keyed : Result Listed Refusal → Type 0
+  Keyed (Ok v) =
+      (m : FieldRead) × (parted_after closing s (valued s (nesting_of (left + 1 - count)) there (items + count) k ks) ≡ got m v.next.at.0 v.items)
+      × Reached s (suc at) items v.next.at.0 v.items
+      × FieldsAt (numbers table) (letters (2 * at) text) (2 * at) (2 * v.next.at.0) Free 0 (v.items - items) (field m.key m.value no_fields)
+  Keyed (Err e) = Refuses (parted_after closing s (valued s (nesting_of (left + 1 - count)) there (items + count) k ks)) e.number e.place
 
-pub record FieldValueIs (closing : ℕ) (s : List ℕ) (there at left items count : ℕ) (marks table text table' text' : List ℕ) (r : Listed)
+pub record FieldValueIs (closing : ℕ) (s : List ℕ) (there at left items count : ℕ) (marks table text table' text' : List ℕ) (r : Result Listed Refusal)
     : Type 0 where
   pub is : (k : Key) (ks : List Key) → HeldKeys 0 0 (k ∷ ks) text marks → count ≡ suc (length ks) → key_sizes (k ∷ ks) + at ≤ there
       → Keyed closing s there at left items count table' text' k ks r
@@ -194,13 +195,13 @@ pub record FoundIs (s : List ℕ) (at w left items : ℕ) (table text : List ℕ
   pub short : f.kind ≤ string_item → f.size.0 + at ≤ f.next.at.0
   pub held : PartAt (numbers table) (letters w text) w (2 * f.next.at.0) at f 0 (f.items - items - 1) part
 
-abbrev pub Pieced : List ℕ → ℕ → ℕ → ℕ → ℕ → List ℕ → List ℕ → PieceRead → Type 0
-Pieced s at w left items table text (PieceRead.Done f) = FoundIs s at w left items table text f
-Pieced s at w left items table text PieceRead.End = start_of s at ≡ none
-Pieced s at w left items table text (PieceRead.Refused k p) =
-    (start : Start) × (start_of s at ≡ some start) × Refuses (count_item items at (piece_at (value_in s) s (nesting_of left) start at)) k p
+abbrev pub Pieced : List ℕ → ℕ → ℕ → ℕ → ℕ → List ℕ → List ℕ → Result (Option PieceItem) Refusal → Type 0
+Pieced s at w left items table text (Ok (Some f)) = FoundIs s at w left items table text f
+Pieced s at w left items table text (Ok None) = start_of s at ≡ none
+Pieced s at w left items table text (Err e) =
+    (start : Start) × (start_of s at ≡ some start) × Refuses (count_item items at (piece_at (value_in s) s (nesting_of left) start at)) e.number e.place
 
-pub record PieceIs (s : List ℕ) (at w left items : ℕ) (table text table' text' : List ℕ) (r : PieceRead) : Type 0 where
+pub record PieceIs (s : List ℕ) (at w left items : ℕ) (table text table' text' : List ℕ) (r : Result (Option PieceItem) Refusal) : Type 0 where
   pub is : Pieced s at w left items table' text' r
   pub kept_table : length table' ≡ length table
   pub kept-text : length text' ≡ length text
@@ -241,14 +242,14 @@ pub record MoreRead (s : List ℕ) (at from used : ℕ) (run : Run) (left items 
   pub follows : Follows (letters used text) from c.at.0 used used' (slice from at s) part
   pub held : PiecesAt (numbers table) (letters used text) used used' Free 0 (n - items) (with_part at (slice from at s) part no_pieces)
 
-abbrev pub Stepped : List ℕ → ℕ → ℕ → ℕ → Run → ℕ → ℕ → List ℕ → List ℕ → ValueStep → Type 0
-Stepped s at from used run left items table text (ValueStep.More c n longer used') =
-    MoreRead s at from used run left items table text c n longer used'.0
-Stepped s at from used run left items table text ValueStep.End = start_of s at ≡ none
-Stepped s at from used run left items table text (ValueStep.Refused k p) =
-    (start : Start) × (start_of s at ≡ some start) × Refuses (count_item items at (piece_at (value_in s) s (nesting_of left) start at)) k p
+abbrev pub Stepped : List ℕ → ℕ → ℕ → ℕ → Run → ℕ → ℕ → List ℕ → List ℕ → Result (Option ValueStep) Refusal → Type 0
+Stepped s at from used run left items table text (Ok (Some m)) =
+    MoreRead s at from used run left items table text m.next m.items m.run m.used.0
+Stepped s at from used run left items table text (Ok None) = start_of s at ≡ none
+Stepped s at from used run left items table text (Err e) =
+    (start : Start) × (start_of s at ≡ some start) × Refuses (count_item items at (piece_at (value_in s) s (nesting_of left) start at)) e.number e.place
 
-pub record StepIs (s : List ℕ) (at from used : ℕ) (run : Run) (left items : ℕ) (table text table' text' : List ℕ) (r : ValueStep) : Type 0 where
+pub record StepIs (s : List ℕ) (at from used : ℕ) (run : Run) (left items : ℕ) (table text table' text' : List ℕ) (r : Result (Option ValueStep) Refusal) : Type 0 where
   pub is : Stepped s at from used run left items table' text' r
   pub kept_table : length table' ≡ length table
   pub kept-text : length text' ≡ length text

@@ -14,10 +14,9 @@ use codes::{bytes, limits, refusals};
 use doc_items::WIDTH;
 use read_grammar::Turn;
 use read_grammar::limits::Beginning;
-use read_keys::KeyRead;
 use read_values::Run;
-use read_values::pieces::{Listed, PieceRead, ValueStep, Valued};
-use text_chars::{Cursor, DocAt, TextAt};
+use read_values::pieces::{Listed, PieceItem, ValueStep, Valued};
+use text_chars::{Cursor, DocAt, Refusal, TextAt};
 
 // ---- the readers of array, object and value
 
@@ -30,40 +29,32 @@ pub fn array(
     items: usize,
     table: &mut [u16],
     text: &mut [u8],
-) -> Listed
+) -> Result<Listed, Refusal>
     requires { Asked s.now c.at.0 left items table.old text.old }
     ensures { ArrayIs s.now c.at.0 left items
         table.old text.old table.new text.new result }
 {
-    let begin = c.at;
-    let start = begin.0;
+    let start = c.at.0;
     let gap = text_scan::gap_at(s, c);
     let mut at = gap.next;
     let mut n = items;
     loop {
         match read_grammar::turn_at(s, at, bytes::CLOSE_BRACKET) {
             Turn::Close(next) => {
-                return Listed::Done { next, items: n };
+                return Ok(Listed { next, items: n });
             }
             Turn::End => {
-                return Listed::Refused {
+                return Err(Refusal {
                     number: refusals::UNEXPECTED_END,
                     place: DocAt(s.len()),
-                };
+                });
             }
             Turn::Member => {
-                let p = at.at;
                 let u = WIDTH * (n - items);
-                let v = 2 * (p.0 - start);
-                match element(s, at, left, n, &mut table[u..], &mut text[v..]) {
-                    Listed::Refused { number, place } => {
-                        return Listed::Refused { number, place };
-                    }
-                    Listed::Done { next, items: more } => {
-                        at = next;
-                        n = more;
-                    }
-                }
+                let v = 2 * (at.at.0 - start);
+                let read = element(s, at, left, n, &mut table[u..], &mut text[v..])?;
+                at = read.next;
+                n = read.items;
             }
         }
     }
@@ -79,40 +70,32 @@ pub fn object(
     items: usize,
     table: &mut [u16],
     text: &mut [u8],
-) -> Listed
+) -> Result<Listed, Refusal>
     requires { (closes closing ≡ true) × Asked s.now c.at.0 left items table.old text.old }
     ensures { ObjectIs closing s.now c.at.0 left items
         table.old text.old table.new text.new result }
 {
-    let begin = c.at;
-    let start = begin.0;
+    let start = c.at.0;
     let gap = text_scan::gap_at(s, c);
     let mut at = gap.next;
     let mut n = items;
     loop {
         match read_grammar::turn_at(s, at, closing) {
             Turn::Close(next) => {
-                return Listed::Done { next, items: n };
+                return Ok(Listed { next, items: n });
             }
             Turn::End => {
-                return Listed::Refused {
+                return Err(Refusal {
                     number: refusals::UNEXPECTED_END,
                     place: DocAt(s.len()),
-                };
+                });
             }
             Turn::Member => {
-                let p = at.at;
                 let u = WIDTH * (n - items);
-                let v = 2 * (p.0 - start);
-                match field(s, at, closing, left, n, &mut table[u..], &mut text[v..]) {
-                    Listed::Refused { number, place } => {
-                        return Listed::Refused { number, place };
-                    }
-                    Listed::Done { next, items: more } => {
-                        at = next;
-                        n = more;
-                    }
-                }
+                let v = 2 * (at.at.0 - start);
+                let read = field(s, at, closing, left, n, &mut table[u..], &mut text[v..])?;
+                at = read.next;
+                n = read.items;
             }
         }
     }
@@ -127,17 +110,17 @@ fn element(
     items: usize,
     table: &mut [u16],
     text: &mut [u8],
-) -> Listed
+) -> Result<Listed, Refusal>
     requires { Asked s.now c.at.0 left items table.old text.old }
     ensures { ElementIs s.now c.at.0 left items
         table.old text.old table.new text.new result }
 {
     let place = c.at;
     if items == doc_items::MAX_ITEMS {
-        return Listed::Refused {
+        return Err(Refusal {
             number: read_grammar::limits::excess_number(s, c),
             place,
-        };
+        });
     }
     let v = value(s, c, left, items + 1, &mut table[WIDTH..], text);
     read_steps::finish_element(s, place, items, v, table)
@@ -153,21 +136,16 @@ fn field(
     items: usize,
     table: &mut [u16],
     text: &mut [u8],
-) -> Listed
+) -> Result<Listed, Refusal>
     requires { Asked s.now c.at.0 left items table.old text.old }
     ensures { FieldIs closing s.now c.at.0 left items
         table.old text.old table.new text.new result }
 {
     let mut marks = [0usize; limits::MARKS];
-    match read_keys::key(s, c, left, items, text, &mut marks) {
-        KeyRead::Refused { number, place } => Listed::Refused { number, place },
-        KeyRead::Done { count, next } => {
-            let place = c.at;
-            field_value(
-                s, next, place, closing, left, items, count, &marks, table, text,
-            )
-        }
-    }
+    let read = read_keys::key(s, c, left, items, text, &mut marks)?;
+    field_value(
+        s, read.next, c.at, closing, left, items, read.count, &marks, table, text,
+    )
 }
 
 // The value of a field whose key was read, in front of which the items of the key's elements are written.
@@ -183,14 +161,13 @@ fn field_value(
     marks: &[usize],
     table: &mut [u16],
     text: &mut [u8],
-) -> Listed
+) -> Result<Listed, Refusal>
     requires { FieldValueAsked s.now c.at.0 place.0 left items count marks.now table.old text.old }
     ensures { FieldValueIs closing s.now c.at.0 place.0 left items count marks.now
         table.old text.old table.new text.new result }
 {
-    let d = c.at;
     let u = WIDTH * count;
-    let w = 2 * (d.0 - place.0);
+    let w = 2 * (c.at.0 - place.0);
     let v = value(
         s,
         c,
@@ -211,7 +188,7 @@ fn value(
     items: usize,
     table: &mut [u16],
     text: &mut [u8],
-) -> Valued
+) -> Result<Valued, Refusal>
     requires { Asked s.now c.at.0 left items table.old text.old }
     ensures { ValueIs s.now c.at.0 left items
         table.old text.old table.new text.new result }
@@ -232,7 +209,7 @@ fn value(
     loop {
         let u = WIDTH * (n - items);
         let v = used - start;
-        match step(
+        let Some(more) = step(
             s,
             at,
             from,
@@ -242,34 +219,15 @@ fn value(
             n,
             &mut table[u..],
             &mut text[v..],
-        ) {
-            ValueStep::End => {
-                return read_values::pieces::finish_value(
-                    s,
-                    at,
-                    run,
-                    n,
-                    TextAt(start),
-                    TextAt(used),
-                );
-            }
-            ValueStep::Refused { number, place } => {
-                return Valued::Refused { number, place };
-            }
-            ValueStep::More {
-                next,
-                items: more,
-                run: longer,
-                used: w,
-            } => {
-                let end = next.at;
-                from = end;
-                at = text_scan::after_inline(s, next);
-                n = more;
-                run = longer;
-                used = w.0;
-            }
-        }
+        )?
+        else {
+            return read_values::pieces::finish_value(s, at, run, n, TextAt(start), TextAt(used));
+        };
+        from = more.next.at;
+        at = text_scan::after_inline(s, more.next);
+        n = more.items;
+        run = more.run;
+        used = more.used.0;
     }
 }
 
@@ -285,7 +243,7 @@ fn step(
     items: usize,
     table: &mut [u16],
     text: &mut [u8],
-) -> ValueStep
+) -> Result<Option<ValueStep>, Refusal>
     requires { StepAsked s.now c.at.0 from.0 used.0 run left items table.old text.old }
     ensures { StepIs s.now c.at.0 from.0 used.0 run left items
         table.old text.old table.new text.new result }
@@ -315,19 +273,17 @@ fn piece(
     items: usize,
     table: &mut [u16],
     text: &mut [u8],
-) -> PieceRead
+) -> Result<Option<PieceItem>, Refusal>
     requires { PieceAsked s.now c.at.0 w.0 left items table.old text.old }
     ensures { PieceIs s.now c.at.0 w.0 left items
         table.old text.old table.new text.new result }
 {
-    match read_grammar::limits::piece_start(s, c, left, items) {
-        Beginning::Nothing => PieceRead::End,
-        Beginning::Refused { number, place } => PieceRead::Refused { number, place },
+    match read_grammar::limits::piece_start(s, c, left, items)? {
+        Beginning::Nothing => Ok(None),
         Beginning::Scalar => read_steps::scalar_piece(s, c, w, items, text),
         Beginning::Reference => read_references::reference_piece(s, c, w, items, text),
         Beginning::Object(next) => {
-            let d = next.at;
-            let v = 2 * d.0 - w.0;
+            let v = 2 * next.at.0 - w.0;
             let r = object(
                 s,
                 next,
@@ -340,8 +296,7 @@ fn piece(
             read_values::pieces::container_piece(r, doc_items::OBJECT)
         }
         Beginning::Array(next) => {
-            let d = next.at;
-            let v = 2 * d.0 - w.0;
+            let v = 2 * next.at.0 - w.0;
             let r = array(s, next, left - 1, items + 1, table, &mut text[v..]);
             read_values::pieces::container_piece(r, doc_items::ARRAY)
         }

@@ -1,4 +1,5 @@
 -- An object or an array as the root.
+use Rattle.std.specs.Prelude.{Result, Ok, Err}
 use mathlib.Core.Path.{◌≡◌, refl, ◌∙◌}
 use mathlib.Core.Bool.{true}
 use mathlib.Core.List.{List}
@@ -11,6 +12,7 @@ use Rattle.rules.specs.Characters.{after_gap}
 use Rattle.rules.specs.Tree.{fields, elements, Fields, Elements}
 use Rattle.rules.specs.Reading.{root_at}
 use Rattle.text_chars.specs.declared.Cursor.{Cursor}
+use Rattle.text_chars.specs.declared.Refusal.{Refusal}
 use Rattle.doc_items.specs.Holds.{FieldsAt, ElementsAt}
 use Rattle.doc_items.specs.Moving.{move-fields, move-elements}
 use Rattle.text_chars.specs.Parts.{part, back, part_length, back-length}
@@ -45,7 +47,7 @@ module _ {s : List ℕ} {at left items : ℕ} {table text : List ℕ} (a : Scrat
 
   -- ---- objects
 
-  module _ {closing : ℕ} {y z : List ℕ} {r : Listed} (m : ObjectIs closing s at left items (part 8 table) (part (2 * at) text) y z r) where
+  module _ {closing : ℕ} {y z : List ℕ} {r : Result Listed Refusal} (m : ObjectIs closing s at left items (part 8 table) (part (2 * at) text) y z r) where
     object-outlined : PutRootAsked s (back 8 table y) 7 items r
     object-outlined = record {
       short = a.short;
@@ -54,17 +56,17 @@ module _ {s : List ℕ} {at left items : ℕ} {table text : List ℕ} (a : Scrat
       ends = go r refl;
     }
       where
-        go : (q : Listed) → r ≡ q → Ends s items q
-        go (Listed.Done c n) e = let u : Object s at left items y z closing (Listed.Done c n) = rw e at m.is in (u.2.inside, u.2.more, u.2.few)
-        go (Listed.Refused k p) e = tt
+        go : (q : Result Listed Refusal) → r ≡ q → Ends s items q
+        go (Ok v) e = let u : Object s at left items y z closing (Ok v) = rw e at m.is in (u.2.inside, u.2.more, u.2.few)
+        go (Err d) e = tt
 
-    object-outline : root_at s (nesting_of left) (after_gap s 0) items ≡ fields_from closing s (nesting_of left) at items → (q : Listed) → r ≡ q → Outline s left items (back 8 table y) (back (2 * at) text z) 7 q
-    object-outline f (Listed.Refused k p) e =
-        let u : Object s at left items y z closing (Listed.Refused k p) = rw e at m.is in
+    object-outline : root_at s (nesting_of left) (after_gap s 0) items ≡ fields_from closing s (nesting_of left) at items → (q : Result Listed Refusal) → r ≡ q → Outline s left items (back 8 table y) (back (2 * at) text z) 7 q
+    object-outline f (Err d) e =
+        let u : Object s at left items y z closing (Err d) = rw e at m.is in
         (u.0, f ∙ rw u.1 refl, u.2, u.3)
-    object-outline f (Listed.Done c n) e =
-        let u : Object s at left items y z closing (Listed.Done c n) = rw e at m.is in
-        (fields u.0, f ∙ rw u.1 refl, (refl, moved u.0 c n u.2.inside u.3))
+    object-outline f (Ok v) e =
+        let u : Object s at left items y z closing (Ok v) = rw e at m.is in
+        (fields u.0, f ∙ rw u.1 refl, (refl, moved u.0 v.next v.items u.2.inside u.3))
       where
         moved : (fs : Fields) (c : Cursor) (n : ℕ) → c.at.0 ≤ length s → FieldsAt (numbers y) (letters (2 * at) z) (2 * at) (2 * c.at.0) Free 0 (n - items) fs
             → FieldsAt (numbers (back 8 table y)) (letters 0 (back (2 * at) text z)) 0 (2 * length s) Free 1 (n - items + 1) fs
@@ -75,7 +77,7 @@ module _ {s : List ℕ} {at left items : ℕ} {table text : List ℕ} (a : Scrat
             (grown-back text z 0 (2 * at) in-text (2 * at) (2 * c.at.0) 0 (2 * length s) (omega arith) (omega arith) (omega arith)) 1 fs 0 (n - items)
             (agree-back table y 1 in_table 0 (n - items)) h'
 
-    object-rooted : {x' : List ℕ} {q : Listed} → root_at s (nesting_of left) (after_gap s 0) items ≡ fields_from closing s (nesting_of left) at items
+    object-rooted : {x' : List ℕ} {q : Result Listed Refusal} → root_at s (nesting_of left) (after_gap s 0) items ≡ fields_from closing s (nesting_of left) at items
         → PutRootIs s 7 items r (back 8 table y) x' q → RootIs s left items table text x' (back (2 * at) text z) q
     object-rooted f w = record {
       is = w.is left (back (2 * at) text z) (object-outline f r refl);
@@ -85,7 +87,7 @@ module _ {s : List ℕ} {at left items : ℕ} {table text : List ℕ} (a : Scrat
 
   -- ---- arrays
 
-  module _ {y z : List ℕ} {r : Listed} (m : ArrayIs s at left items (part 8 table) (part (2 * at) text) y z r) where
+  module _ {y z : List ℕ} {r : Result Listed Refusal} (m : ArrayIs s at left items (part 8 table) (part (2 * at) text) y z r) where
     array-outlined : PutRootAsked s (back 8 table y) 6 items r
     array-outlined = record {
       short = a.short;
@@ -94,17 +96,17 @@ module _ {s : List ℕ} {at left items : ℕ} {table text : List ℕ} (a : Scrat
       ends = go r refl;
     }
       where
-        go : (q : Listed) → r ≡ q → Ends s items q
-        go (Listed.Done c n) e = let u : Array s at left items y z (Listed.Done c n) = rw e at m.is in (u.2.inside, u.2.more, u.2.few)
-        go (Listed.Refused k p) e = tt
+        go : (q : Result Listed Refusal) → r ≡ q → Ends s items q
+        go (Ok v) e = let u : Array s at left items y z (Ok v) = rw e at m.is in (u.2.inside, u.2.more, u.2.few)
+        go (Err d) e = tt
 
-    array-outline : root_at s (nesting_of left) (after_gap s 0) items ≡ elements_from s (nesting_of left) at items → (q : Listed) → r ≡ q → Outline s left items (back 8 table y) (back (2 * at) text z) 6 q
-    array-outline f (Listed.Refused k p) e =
-        let u : Array s at left items y z (Listed.Refused k p) = rw e at m.is in
+    array-outline : root_at s (nesting_of left) (after_gap s 0) items ≡ elements_from s (nesting_of left) at items → (q : Result Listed Refusal) → r ≡ q → Outline s left items (back 8 table y) (back (2 * at) text z) 6 q
+    array-outline f (Err d) e =
+        let u : Array s at left items y z (Err d) = rw e at m.is in
         (u.0, f ∙ rw u.1 refl, u.2, u.3)
-    array-outline f (Listed.Done c n) e =
-        let u : Array s at left items y z (Listed.Done c n) = rw e at m.is in
-        (elements u.0, f ∙ rw u.1 refl, (refl, moved u.0 c n u.2.inside u.3))
+    array-outline f (Ok v) e =
+        let u : Array s at left items y z (Ok v) = rw e at m.is in
+        (elements u.0, f ∙ rw u.1 refl, (refl, moved u.0 v.next v.items u.2.inside u.3))
       where
         moved : (es : Elements) (c : Cursor) (n : ℕ) → c.at.0 ≤ length s → ElementsAt (numbers y) (letters (2 * at) z) (2 * at) (2 * c.at.0) Free 0 (n - items) es
             → ElementsAt (numbers (back 8 table y)) (letters 0 (back (2 * at) text z)) 0 (2 * length s) Free 1 (n - items + 1) es
@@ -115,7 +117,7 @@ module _ {s : List ℕ} {at left items : ℕ} {table text : List ℕ} (a : Scrat
             (grown-back text z 0 (2 * at) in-text (2 * at) (2 * c.at.0) 0 (2 * length s) (omega arith) (omega arith) (omega arith)) 1 es 0 (n - items)
             (agree-back table y 1 in_table 0 (n - items)) h'
 
-    array-rooted : {x' : List ℕ} {q : Listed} → root_at s (nesting_of left) (after_gap s 0) items ≡ elements_from s (nesting_of left) at items
+    array-rooted : {x' : List ℕ} {q : Result Listed Refusal} → root_at s (nesting_of left) (after_gap s 0) items ≡ elements_from s (nesting_of left) at items
         → PutRootIs s 6 items r (back 8 table y) x' q → RootIs s left items table text x' (back (2 * at) text z) q
     array-rooted f w = record {
       is = w.is left (back (2 * at) text z) (array-outline f r refl);
@@ -157,11 +159,11 @@ module _ {s : List ℕ} {o : Opening} (h : OpeningIs s o) where
       pub root-object-asks : Asked s c.at.0 left items (part 8 table) (part (2 * c.at.0) text)
       root-object-asks = body-asks below
 
-      module _ {y z : List ℕ} {r : Listed} (m : ObjectIs closing s c.at.0 left items (part 8 table) (part (2 * c.at.0) text) y z r) where
+      module _ {y z : List ℕ} {r : Result Listed Refusal} (m : ObjectIs closing s c.at.0 left items (part 8 table) (part (2 * c.at.0) text) y z r) where
         pub root-object-puts : PutRootAsked s (back 8 table y) 7 items r
         root-object-puts = object-outlined below m
 
-        pub root-object-is : {x' : List ℕ} {q : Listed} → PutRootIs s 7 items r (back 8 table y) x' q
+        pub root-object-is : {x' : List ℕ} {q : Result Listed Refusal} → PutRootIs s 7 items r (back 8 table y) x' q
             → RootIs s left items table text x' (back (2 * c.at.0) text z) q
         root-object-is w = object-rooted below m (opens-object.2 (nesting_of left) items) w
 
@@ -182,11 +184,11 @@ module _ {s : List ℕ} {o : Opening} (h : OpeningIs s o) where
       pub root-array-asks : Asked s c.at.0 left items (part 8 table) (part (2 * c.at.0) text)
       root-array-asks = body-asks inside
 
-      module _ {y z : List ℕ} {r : Listed} (m : ArrayIs s c.at.0 left items (part 8 table) (part (2 * c.at.0) text) y z r) where
+      module _ {y z : List ℕ} {r : Result Listed Refusal} (m : ArrayIs s c.at.0 left items (part 8 table) (part (2 * c.at.0) text) y z r) where
         pub root-array-puts : PutRootAsked s (back 8 table y) 6 items r
         root-array-puts = array-outlined inside m
 
-        pub root-array-is : {x' : List ℕ} {q : Listed} → PutRootIs s 6 items r (back 8 table y) x' q
+        pub root-array-is : {x' : List ℕ} {q : Result Listed Refusal} → PutRootIs s 6 items r (back 8 table y) x' q
             → RootIs s left items table text x' (back (2 * c.at.0) text z) q
         root-array-is w = array-rooted inside m (opens-array.1 (nesting_of left) items) w
 

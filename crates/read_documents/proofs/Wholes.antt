@@ -1,4 +1,5 @@
 -- The numbers of a tree that was read; documents; inputs.
+use Rattle.std.specs.Prelude.{Result, Ok, Err}
 use mathlib.Core.Path.{◌≡◌, refl, sym, ap, ◌∙◌}
 use mathlib.Core.Bool.{Bool, true, false}
 use mathlib.Core.List.{List}
@@ -24,7 +25,7 @@ use Rattle.read_numbering.specs.declared.Count.{Count}
 use Rattle.read_documents.specs.Trees.{ScratchAsked, TreeAt, TreeAs, TreeIs}
 use Rattle.read_documents.specs.Clauses.{items_of, reading_told, input_told, ReadAs, NumberTreeIs, DocumentAsked, DocumentIs, InputsAs, InputsIs}
 use Rattle.read_documents.specs.declared.Counters.{Counters}
-use Rattle.read_documents.specs.declared.Tree.{Tree}
+use Rattle.text_chars.specs.declared.Refusal.{Refusal as Refused}
 use Rattle.read_documents.specs.declared.Reading.{Reading}
 
 -- ---- the numbers
@@ -129,14 +130,14 @@ document-scratch a = record {
   text-room = a.text-room;
 }
 
-module _ {s table text x t : List ℕ} {r : Tree} (m : TreeIs s (record { left = max_nesting - 1; items = 0 }) table text x t r) where
-  pub document-refused : {k : ℕ} {p : DocAt} → r ≡ Tree.Refused k p → DocumentIs s table text x t (Reading.Refused k p)
-  document-refused {k} {p} q =
-      let u : TreeAs s (record { left = max_nesting - 1; items = 0 }) x t (Tree.Refused k p) = rw q at m.is in
+module _ {s table text x t : List ℕ} {r : Result Counters Refused} (m : TreeIs s (record { left = max_nesting - 1; items = 0 }) table text x t r) where
+  pub document-refused : {y : Refused} → r ≡ Err y → DocumentIs s table text x t (Reading.Refused y.number y.place)
+  document-refused {y} q =
+      let u : TreeAs s (record { left = max_nesting - 1; items = 0 }) x t (Err y) = rw q at m.is in
       document-of (u.0, by-tree s ∙ ap of_root u.1 ∙ of-rejected u.0, u.2, u.3) m.kept_table m.kept-text
 
-  module _ {c : Counters} (q : r ≡ Tree.Done c) where
-    read : TreeAs s (record { left = max_nesting - 1; items = 0 }) x t (Tree.Done c)
+  module _ {c : Counters} (q : r ≡ Ok c) where
+    read : TreeAs s (record { left = max_nesting - 1; items = 0 }) x t (Ok c)
     read = rw q at m.is
 
     pub document-few : c.items ≤ max_items

@@ -13,10 +13,10 @@ ghost use Rattle.read_documents.specs.Bounds.{FitsIs};
 
 use codes::{limits, refusals};
 use doc_items::{Item, WIDTH};
-use read_grammar::roots::{Ending, Opening};
+use read_grammar::roots::Opening;
 use read_numbering::Count;
 use read_values::pieces::Listed;
-use text_chars::{DocAt, TextAt, TextLen, ill_formed};
+use text_chars::{DocAt, Refusal, TextAt, TextLen, ill_formed};
 
 // ---- the tree
 
@@ -29,58 +29,51 @@ pub struct Counters {
     pub items: usize,
 }
 
-/// What reading a document's tree gives.
-#[derive(Clone, Copy)]
-pub enum Tree {
-    /// The counters behind it; the table and the text part hold it.
-    Done { counters: Counters },
-    /// The number and the place of a refusal.
-    Refused { number: u8, place: DocAt },
-}
-
 // Behind the root stands only a gap. Then the root's item is written, with those that were read since the count of items.
-fn put_root(s: &[u8], r: Listed, kind: usize, items: usize, table: &mut [u16]) -> Listed
+fn put_root(
+    s: &[u8],
+    r: Result<Listed, Refusal>,
+    kind: usize,
+    items: usize,
+    table: &mut [u16],
+) -> Result<Listed, Refusal>
     requires { PutRootAsked s.now table.old kind items r }
     ensures { PutRootIs s.now kind items r table.old table.new result }
 {
-    match r {
-        Listed::Refused { number, place } => Listed::Refused { number, place },
-        Listed::Done { next, items: n } => match read_grammar::roots::ending_of(s, next) {
-            Ending::Trailing(place) => Listed::Refused {
-                number: refusals::BYTE_NOT_ALLOWED,
-                place,
-            },
-            Ending::End(last) => {
-                let item = Item {
-                    kind,
-                    size: n - items + 1,
-                    key: TextAt(0),
-                    keylen: TextLen(0),
-                    text: TextAt(0),
-                    textlen: TextLen(0),
-                    place: DocAt(0),
-                    number: 0,
-                };
-                doc_items::put_item(table, 0, item);
-                Listed::Done {
-                    next: last,
-                    items: n,
-                }
-            }
-        },
-    }
+    let read = r?;
+    let last = read_grammar::roots::ending_of(s, read.next)?;
+    let item = Item {
+        kind,
+        size: read.items - items + 1,
+        key: TextAt(0),
+        keylen: TextLen(0),
+        text: TextAt(0),
+        textlen: TextLen(0),
+        place: DocAt(0),
+        number: 0,
+    };
+    doc_items::put_item(table, 0, item);
+    Ok(Listed {
+        next: last,
+        items: read.items,
+    })
 }
 
 // The root with all its items: an object, in braces or without, or an array.
-fn root(s: &[u8], left: usize, items: usize, table: &mut [u16], text: &mut [u8]) -> Listed
+fn root(
+    s: &[u8],
+    left: usize,
+    items: usize,
+    table: &mut [u16],
+    text: &mut [u8],
+) -> Result<Listed, Refusal>
     requires { ScratchAsked s.now 0 left items table.old text.old }
     ensures { RootIs s.now left items
         table.old text.old table.new text.new result }
 {
     match read_grammar::roots::opening_of(s) {
         Opening::Object { next, closing } => {
-            let d = next.at;
-            let v = 2 * d.0;
+            let v = 2 * next.at.0;
             let r = read_cycle::object(
                 s,
                 next,
@@ -93,34 +86,36 @@ fn root(s: &[u8], left: usize, items: usize, table: &mut [u16], text: &mut [u8])
             put_root(s, r, doc_items::OBJECT, items, table)
         }
         Opening::Array(next) => {
-            let d = next.at;
-            let v = 2 * d.0;
+            let v = 2 * next.at.0;
             let r = read_cycle::array(s, next, left, items, &mut table[WIDTH..], &mut text[v..]);
             put_root(s, r, doc_items::ARRAY, items, table)
         }
     }
 }
 
-// Reads a document's tree: 2 over its bytes, then from left to right. The counters go in and come out: a second document may go on where
+// The counters behind a document's tree, which the table and the text part hold: 2 over its bytes, then from left to right. The counters go in and come out: a second document may go on where
 // a first one stopped, in the part of the table behind it.
-fn read_tree(s: &[u8], counters: Counters, table: &mut [u16], text: &mut [u8]) -> Tree
+fn read_tree(
+    s: &[u8],
+    counters: Counters,
+    table: &mut [u16],
+    text: &mut [u8],
+) -> Result<Counters, Refusal>
     requires { ScratchAsked s.now 0 counters.left counters.items table.old text.old }
     ensures { TreeIs s.now counters
         table.old text.old table.new text.new result }
 {
     match ill_formed(s) {
-        Some(place) => Tree::Refused {
+        Some(place) => Err(Refusal {
             number: refusals::ILL_FORMED_UTF8,
             place,
-        },
+        }),
         None => {
-            let left = counters.left;
-            match root(s, left, counters.items, table, text) {
-                Listed::Refused { number, place } => Tree::Refused { number, place },
-                Listed::Done { next, items } => Tree::Done {
-                    counters: Counters { left, items },
-                },
-            }
+            let read = root(s, counters.left, counters.items, table, text)?;
+            Ok(Counters {
+                items: read.items,
+                ..counters
+            })
         }
     }
 }
@@ -164,8 +159,11 @@ fn read_document(s: &[u8], table: &mut [u16], text: &mut [u8]) -> Reading
         items: 0,
     };
     match read_tree(s, none, table, text) {
-        Tree::Refused { number, place } => Reading::Refused { number, place },
-        Tree::Done { counters } => number_tree(s, counters.items, table),
+        Err(e) => Reading::Refused {
+            number: e.number,
+            place: e.place,
+        },
+        Ok(counters) => number_tree(s, counters.items, table),
     }
 }
 

@@ -1,4 +1,5 @@
 -- One law for each answer of the functions that go on to a member or a value.
+use Rattle.std.specs.Prelude.{Ok, Err}
 use mathlib.Core.Path.{◌≡◌, refl, sym, ◌∙◌, ap}
 use mathlib.Core.Bool.{Bool, true, false, ◌||◌}
 use mathlib.Core.List.{List}
@@ -9,13 +10,12 @@ use Rattle.rules.specs.Bytes.{byte_at}
 use Rattle.rules.specs.Refusals.{placed, not_allowed, Scan, ok, refused}
 use Rattle.rules.specs.Characters.{gap_at, after_gap}
 use Rattle.rules.specs.Reading.{parted, value_place}
-use Rattle.text_chars.specs.Cursor.{ByteIs}
+use Rattle.text_chars.specs.Cursor.{refusal, ByteIs}
 use Rattle.text_chars.specs.declared.Cursor.{Cursor}
 use Rattle.text_scan.specs.Scan.{SeenIs, EndIs, GapIs}
 use Rattle.text_chars.specs.declared.Step.{Step}
 use Rattle.text_scan.specs.declared.Gap.{Gap}
 use Rattle.read_grammar.specs.Decisions.{PlaceIs, NotAllowedIs}
-use Rattle.read_grammar.specs.declared.Place.{Place}
 use Rattle.read_grammar.proofs.Bytes.{is_byte, not_byte, one_on}
 
 -- ---- behind a byte
@@ -44,11 +44,11 @@ module _ (closing : ℕ) {s : List ℕ} {at b : ℕ} {g : Gap} (j : GapIs s at g
 
   -- the gap's end is the place
   stays : parted_by closing s g.next.at.0 g.newline ≡ ok g.next.at.0 g.next.at.0
-      → PlaceIs (parted closing s at) s at (Place.At g.next)
+      → PlaceIs (parted closing s at) s at (Ok g.next)
   stays e = record { is = (g.next.at.0, parted-gap ∙ e, j.forward, j.inside) }
 
   pub parted-comma : {c : Cursor} → b ≡ 44 → EndIs s g.next.at.0 (after_gap s (g.next.at.0 + 1)) c
-      → PlaceIs (parted closing s at) s at (Place.At c)
+      → PlaceIs (parted closing s at) s at (Ok c)
   parted-comma e h = record {
     is = (
       g.next.at.0,
@@ -59,18 +59,18 @@ module _ (closing : ℕ) {s : List ℕ} {at b : ℕ} {g : Gap} (j : GapIs s at g
   }
 
   module _ (n : b ≡ 44 → ⊥) where
-    pub parted-end : b ≡ 256 → PlaceIs (parted closing s at) s at (Place.At g.next)
+    pub parted-end : b ≡ 256 → PlaceIs (parted closing s at) s at (Ok g.next)
     parted-end e = stays (rw (not_byte k 44 n, is_byte k 256 e, parted_by))
 
     module _ (m : b ≡ 256 → ⊥) where
-      pub parted-closing : b ≡ closing → PlaceIs (parted closing s at) s at (Place.At g.next)
+      pub parted-closing : b ≡ closing → PlaceIs (parted closing s at) s at (Ok g.next)
       parted-closing e = stays (rw (not_byte k 44 n, not_byte k 256 m, is_byte k closing e, parted_by))
 
       module _ (z : b ≡ closing → ⊥) where
-        pub parted-newline : g.newline ≡ true → PlaceIs (parted closing s at) s at (Place.At g.next)
+        pub parted-newline : g.newline ≡ true → PlaceIs (parted closing s at) s at (Ok g.next)
         parted-newline e = stays (rw (not_byte k 44 n, not_byte k 256 m, not_byte k closing z, e, parted_by))
 
-        pub parted-refused : g.newline ≡ false → PlaceIs (parted closing s at) s at (Place.Refused 3 g.next.at)
+        pub parted-refused : g.newline ≡ false → PlaceIs (parted closing s at) s at (Err (refusal 3 g.next.at))
         parted-refused e = record {
           is = (
             placed 3 g.next.at.0,
@@ -97,7 +97,7 @@ module _ {s : List ℕ} {at b : ℕ} {g : Gap} (j : GapIs s at g) (k : ByteIs s 
   value-gap = ap (value_by s) (sym j.is)
 
   module _ {c : Cursor} (h : EndIs s g.next.at.0 (after_gap s (g.next.at.0 + 1)) c) where
-    goes : value_by s g.next.at.0 ≡ ok g.next.at.0 (after_gap s (g.next.at.0 + 1)) → PlaceIs (value_place s at) s at (Place.At c)
+    goes : value_by s g.next.at.0 ≡ ok g.next.at.0 (after_gap s (g.next.at.0 + 1)) → PlaceIs (value_place s at) s at (Ok c)
     goes e = record {
       is = (
         g.next.at.0,
@@ -107,20 +107,20 @@ module _ {s : List ℕ} {at b : ℕ} {g : Gap} (j : GapIs s at g) (k : ByteIs s 
       );
     }
 
-    pub value-colon : b ≡ 58 → PlaceIs (value_place s at) s at (Place.At c)
+    pub value-colon : b ≡ 58 → PlaceIs (value_place s at) s at (Ok c)
     value-colon e = goes (rw (is_byte k 58 e, value_by))
 
-    pub value-equals : (b ≡ 58 → ⊥) → b ≡ 61 → PlaceIs (value_place s at) s at (Place.At c)
+    pub value-equals : (b ≡ 58 → ⊥) → b ≡ 61 → PlaceIs (value_place s at) s at (Ok c)
     value-equals n e = goes (rw (not_byte k 58 n, is_byte k 61 e, value_by))
 
   module _ (n : b ≡ 58 → ⊥) (m : b ≡ 61 → ⊥) where
-    pub value-brace : b ≡ 123 → PlaceIs (value_place s at) s at (Place.At g.next)
+    pub value-brace : b ≡ 123 → PlaceIs (value_place s at) s at (Ok g.next)
     value-brace e = record {
       is = (g.next.at.0, value-gap ∙ rw (not_byte k 58 n, not_byte k 61 m, is_byte k 123 e, value_by), j.forward, j.inside);
     }
 
     pub value-refused : {r : ℕ} → (b ≡ 123 → ⊥) → NotAllowedIs s g.next.at.0 r
-        → PlaceIs (value_place s at) s at (Place.Refused r g.next.at)
+        → PlaceIs (value_place s at) s at (Err (refusal r g.next.at))
     value-refused z h = record {
       is = (
         not_allowed s g.next.at.0,

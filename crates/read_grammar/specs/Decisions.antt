@@ -1,13 +1,14 @@
 -- What the decisions of the grammar promise, by the rules' definitions.
-use Rattle.std.specs.Prelude.{◌≡◌, ℕ, ◌+◌, ◌≤◌, ◌<◌, Bool, true, false, ◌||◌, List, ltb, eqb, length}
+use Rattle.std.specs.Prelude.{Result, Ok, Err, ◌≡◌, ℕ, ◌+◌, ◌≤◌, ◌<◌, Bool, true, false, ◌||◌, List, ltb, eqb, length}
 use Rattle.std.proofs.Math.Option.{Option, none, some}
 use Rattle.rules.specs.Bytes.{byte_at}
 use Rattle.rules.specs.Refusals.{Refusal, number_of, place_of, not_allowed, Scan, ok, refused}
 use Rattle.rules.specs.Pieces.{starts_simple}
 use Rattle.rules.specs.Reading as rules
+use Rattle.text_chars.specs.declared.Cursor.{Cursor}
+use Rattle.text_chars.specs.declared.Refusal.{Refusal as Refused}
 use Rattle.read_grammar.specs.declared.Start.{Start}
 use Rattle.read_grammar.specs.declared.Turn.{Turn}
-use Rattle.read_grammar.specs.declared.Place.{Place}
 
 -- ---- what begins at a place
 
@@ -55,9 +56,9 @@ pub record TurnIs (closing : ℕ) (s : List ℕ) (at : ℕ) (r : Turn) : Type 0 
 -- ---- places
 
 -- a place that is not before another and not past the end, or the rules' refusal
-abbrev pub Placed : Scan ℕ → ℕ → ℕ → Place → Type 0
-Placed m len at (Place.At c) = (p : ℕ) × (m ≡ ok p c.at.0) × (at ≤ c.at.0) × (c.at.0 ≤ len)
-Placed m len at (Place.Refused n p) = (x : Refusal) × (m ≡ refused x) × (n ≡ number_of x) × (p.0 ≡ place_of x)
+abbrev pub Placed : Scan ℕ → ℕ → ℕ → Result Cursor Refused → Type 0
+Placed m len at (Ok c) = (p : ℕ) × (m ≡ ok p c.at.0) × (at ≤ c.at.0) × (c.at.0 ≤ len)
+Placed m len at (Err e) = (x : Refusal) × (m ≡ refused x) × (e.number ≡ number_of x) × (e.place.0 ≡ place_of x)
 
-pub record PlaceIs (m : Scan ℕ) (s : List ℕ) (at : ℕ) (r : Place) : Type 0 where
+pub record PlaceIs (m : Scan ℕ) (s : List ℕ) (at : ℕ) (r : Result Cursor Refused) : Type 0 where
   pub is : Placed m (length s) at r

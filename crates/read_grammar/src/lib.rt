@@ -16,7 +16,7 @@ ghost use Rattle.text_scan.specs.Scan.{EndIs};
 ghost use Rattle.read_grammar.specs.Decisions.{closes, StartIs, NotAllowedIs, TurnIs, PlaceIs};
 
 use codes::{bytes, refusals};
-use text_chars::{Cursor, DocAt};
+use text_chars::{Cursor, DocAt, Refusal};
 
 /// What begins at a place of a value.
 #[derive(Clone, Copy)]
@@ -106,15 +106,6 @@ pub fn turn_at(s: &[u8], c: Cursor, closing: u32) -> Turn
 
 // ---- between members, and between key and value
 
-/// A place further on.
-#[derive(Clone, Copy)]
-pub enum Place {
-    /// the cursor there
-    At(Cursor),
-    /// a refusal with a number at a place
-    Refused { number: u8, place: DocAt },
-}
-
 // The place behind an ASCII byte and the gap after it.
 fn behind(s: &[u8], c: Cursor) -> Cursor
     requires { (length s.now ≤ max_document) × (c.at.0 ≤ length s.now) × (byte_at s.now c.at.0 < 128) }
@@ -128,7 +119,7 @@ fn behind(s: &[u8], c: Cursor) -> Cursor
 }
 
 /// Behind a member: where the next one, or the closing byte, may stand.
-pub fn parted(s: &[u8], c: Cursor, closing: u32) -> Place
+pub fn parted(s: &[u8], c: Cursor, closing: u32) -> Result<Cursor, Refusal>
     requires { (length s.now ≤ max_document) × (c.at.0 ≤ length s.now) }
     ensures { PlaceIs (rules.parted closing s.now c.at.0) s.now c.at.0 result }
 {
@@ -139,26 +130,26 @@ pub fn parted(s: &[u8], c: Cursor, closing: u32) -> Place
     let b = text_chars::byte_at(s, d);
     if b == bytes::COMMA {
         let member = behind(s, p);
-        return Place::At(member);
+        return Ok(member);
     }
     if b == bytes::NONE {
-        return Place::At(p);
+        return Ok(p);
     }
     if b == closing {
-        return Place::At(p);
+        return Ok(p);
     }
     if newline {
-        return Place::At(p);
+        return Ok(p);
     }
     let place = p.at;
-    Place::Refused {
+    Err(Refusal {
         number: refusals::BYTE_NOT_ALLOWED,
         place,
-    }
+    })
 }
 
 /// Behind a key: where its value stands.
-pub fn value_place(s: &[u8], c: Cursor) -> Place
+pub fn value_place(s: &[u8], c: Cursor) -> Result<Cursor, Refusal>
     requires { (length s.now ≤ max_document) × (c.at.0 ≤ length s.now) }
     ensures { PlaceIs (rules.value_place s.now c.at.0) s.now c.at.0 result }
 {
@@ -168,17 +159,17 @@ pub fn value_place(s: &[u8], c: Cursor) -> Place
     let b = text_chars::byte_at(s, d);
     if b == bytes::COLON {
         let value = behind(s, p);
-        return Place::At(value);
+        return Ok(value);
     }
     if b == bytes::EQUALS {
         let value = behind(s, p);
-        return Place::At(value);
+        return Ok(value);
     }
     if b == bytes::OPEN_BRACE {
-        return Place::At(p);
+        return Ok(p);
     }
     let number = not_allowed(s, p);
-    Place::Refused { number, place: d }
+    Err(Refusal { number, place: d })
 }
 
 // ---- the keys that start with `include`

@@ -6,7 +6,7 @@ ghost use Rattle.read_grammar.specs.Limits.Limits.{nesting_in_root, AllowedIs, S
 
 use crate::Start;
 use codes::{limits, refusals};
-use text_chars::{Cursor, DocAt};
+use text_chars::{Cursor, Refusal};
 
 /// How many elements a key may have: each is an item, and each after the first opens a nesting.
 pub fn allowed_keys(left: usize, items: usize) -> usize
@@ -54,47 +54,39 @@ pub enum Beginning {
     Scalar,
     /// no piece
     Nothing,
-    /// a piece that would be an item or a nesting too many
-    Refused { number: u8, place: DocAt },
 }
 
-/// What begins at a place of a value, the limits on items and nesting kept.
-pub fn piece_start(s: &[u8], c: Cursor, left: usize, items: usize) -> Beginning
+/// What begins at a place of a value; refused is a piece that would be an item or a nesting too many.
+pub fn piece_start(s: &[u8], c: Cursor, left: usize, items: usize) -> Result<Beginning, Refusal>
     requires { (length s.now ≤ max_document) × (c.at.0 ≤ length s.now) × (left ≤ nesting_in_root) × (items ≤ max_items) }
     ensures { PieceStartIs s.now c.at.0 left items result }
 {
-    let place = c.at;
+    let over = Refusal {
+        number: refusals::OVER_LIMIT,
+        place: c.at,
+    };
     let deepest = left == 0;
     if items == doc_items::MAX_ITEMS {
         if starts_piece(s, c) {
-            return Beginning::Refused {
-                number: refusals::OVER_LIMIT,
-                place,
-            };
+            return Err(over);
         }
-        return Beginning::Nothing;
+        return Ok(Beginning::Nothing);
     }
     match crate::start_of(s, c) {
-        Start::Nothing => Beginning::Nothing,
-        Start::Dollar => Beginning::Reference,
-        Start::Scalar => Beginning::Scalar,
+        Start::Nothing => Ok(Beginning::Nothing),
+        Start::Dollar => Ok(Beginning::Reference),
+        Start::Scalar => Ok(Beginning::Scalar),
         Start::Brace(next) => {
             if deepest {
-                return Beginning::Refused {
-                    number: refusals::OVER_LIMIT,
-                    place,
-                };
+                return Err(over);
             }
-            Beginning::Object(next)
+            Ok(Beginning::Object(next))
         }
         Start::Bracket(next) => {
             if deepest {
-                return Beginning::Refused {
-                    number: refusals::OVER_LIMIT,
-                    place,
-                };
+                return Err(over);
             }
-            Beginning::Array(next)
+            Ok(Beginning::Array(next))
         }
     }
 }

@@ -6,8 +6,8 @@ ghost use Rattle.rules.specs.Sizes.{max_document};
 ghost use Rattle.read_grammar.specs.Roots.Contracts.{OpeningIs, EndingIs};
 
 use crate::Start;
-use codes::bytes;
-use text_chars::{Cursor, DocAt};
+use codes::{bytes, refusals};
+use text_chars::{Cursor, Refusal};
 
 /// What the root is, with the cursor where its members begin.
 #[derive(Clone, Copy)]
@@ -16,15 +16,6 @@ pub enum Opening {
     Object { next: Cursor, closing: u32 },
     /// An array.
     Array(Cursor),
-}
-
-/// What stands behind the root.
-#[derive(Clone, Copy)]
-pub enum Ending {
-    /// Nothing but a gap: the cursor is at the end of the document.
-    End(Cursor),
-    /// A byte that may not stand there.
-    Trailing(DocAt),
 }
 
 /// The root of a document.
@@ -50,8 +41,8 @@ pub fn opening_of(s: &[u8]) -> Opening
     }
 }
 
-/// What stands behind the root, which ends at a place.
-pub fn ending_of(s: &[u8], c: Cursor) -> Ending
+/// The end of the document, which stands behind the root and a gap; any other byte is refused.
+pub fn ending_of(s: &[u8], c: Cursor) -> Result<Cursor, Refusal>
     requires { (length s.now ≤ max_document) × (c.at.0 ≤ length s.now) }
     ensures { EndingIs s.now c.at.0 result }
 {
@@ -59,7 +50,10 @@ pub fn ending_of(s: &[u8], c: Cursor) -> Ending
     let last = gap.next;
     let end = last.at;
     if end.0 < s.len() {
-        return Ending::Trailing(end);
+        return Err(Refusal {
+            number: refusals::BYTE_NOT_ALLOWED,
+            place: end,
+        });
     }
-    Ending::End(last)
+    Ok(last)
 }

@@ -19,11 +19,11 @@ use Rattle.theory_text.specs.Choices.{by-test}
 use Rattle.theory_text.specs.Places.{inline-reached}
 use Rattle.theory.specs.Lengths.{IfRead, ends, of-read, then-read, unread, simple-forward, Within, elements-within}
 use Rattle.rules.specs.Paths.{sizes}
+use Rattle.text_chars.specs.Cursor.{refusal}
 use Rattle.text_chars.specs.declared.DocAt.{DocAt}
 use Rattle.text_chars.specs.declared.Refusal.{Refusal as Refused}
 use Rattle.text_chars.specs.declared.Cursor.{Cursor}
 use Rattle.read_grammar.specs.Decisions.{Placed, PlaceIs}
-use Rattle.read_grammar.specs.declared.Place.{Place}
 use Rattle.text_elements.specs.Marks.Holding.{Held}
 use Rattle.text_elements.specs.Marks.Judging.{JudgeIs}
 use Rattle.text_elements.specs.Marks.Verdicts.{verdict-fine, verdict-bad}
@@ -44,33 +44,32 @@ fails s end first allowed es x e value_at nesting items = rw e
 
 module _ {s : List ℕ} {c : Cursor} {count : ℕ} {empty : Bool} {first : DocAt} {allowed : ℕ} {marks : List ℕ} {v : Result (Unit {0}) Refused}
     (k : JudgeIs count empty first.0 allowed marks v) where
-  pub judged-bad : {y : Refused} → v ≡ Err y → JudgeKeyIs s c.at.0 count empty first.0 allowed marks (KeyRead.Refused y.number y.place)
+  pub judged-bad : {y : Refused} → v ≡ Err y → JudgeKeyIs s c.at.0 count empty first.0 allowed marks (Err y)
   judged-bad {y} z = record {
     is = λ es out w i j.
         let (x, o, f, g) = verdict-bad first.0 allowed es y (sym z ∙ k.is es out w i j) in
         (x, fails s c.at.0 first.0 allowed es x o, f, g);
   }
 
-  module _ (z : v ≡ Ok tt) {p : Place} (h : PlaceIs (value_place s c.at.0) s c.at.0 p) where
+  module _ (z : v ≡ Ok tt) {p : Result Cursor Refused} (h : PlaceIs (value_place s c.at.0) s c.at.0 p) where
     misplaced : (es : List Element) → 0 < length es → judge first.0 allowed es ≡ none → (x : Refusal) → value_place s c.at.0 ≡ refused x
         → (value_at : Values) (nesting items : ℕ) → field_judged value_at s nesting c.at.0 items es (judge first.0 allowed es) ≡ refused x
     unfolding field_judged field_with
     misplaced [] l e x q value_at nesting items = absurd (omega arith)
     misplaced (y ∷ ys) l e x q value_at nesting items = rw (e, q)
 
-    pub judged-misplaced : {n : ℕ} {d : DocAt} → p ≡ Place.Refused n d
-        → JudgeKeyIs s c.at.0 count empty first.0 allowed marks (KeyRead.Refused n d)
-    judged-misplaced {n} {d} e =
-        let u : Placed (value_place s c.at.0) (length s) c.at.0 (Place.Refused n d) = rw e at h.is in
+    pub judged-misplaced : {y : Refused} → p ≡ Err y → JudgeKeyIs s c.at.0 count empty first.0 allowed marks (Err y)
+    judged-misplaced {y} e =
+        let u : Placed (value_place s c.at.0) (length s) c.at.0 (Err y) = rw e at h.is in
         record {
           is = λ es out w i j.
               let (o, f, g) = verdict-fine first.0 allowed es (sym z ∙ k.is es out w i j) in
               (u.0, misplaced es f o u.0 u.1, u.2, u.3);
         }
 
-    pub judged-fine : {d : Cursor} → p ≡ Place.At d → JudgeKeyIs s c.at.0 count empty first.0 allowed marks (KeyRead.Done count d)
+    pub judged-fine : {d : Cursor} → p ≡ Ok d → JudgeKeyIs s c.at.0 count empty first.0 allowed marks (Ok (record { count = count; next = d }))
     judged-fine {d} e =
-        let u : Placed (value_place s c.at.0) (length s) c.at.0 (Place.At d) = rw e at h.is in
+        let u : Placed (value_place s c.at.0) (length s) c.at.0 (Ok d) = rw e at h.is in
         record {
           is = λ es out w i j.
               let (o, f, g) = verdict-fine first.0 allowed es (sym z ∙ k.is es out w i j) in
@@ -194,12 +193,12 @@ module _ (s : List ℕ) (at allowed end : ℕ) (gs : List Segment) (q : segments
 
 done-path : (s : List ℕ) (at allowed : ℕ) (text marks : List ℕ) (end : ℕ) (gs : List Segment) → segments_at true s at ≡ ok gs end
     → (es : List Element) → elements_of gs ≡ es → Held 0 0 es text marks → sizes es + length es + at ≤ end + 1 → end ≤ max_document → Within at end es
-    → allowed ≤ max_path → (n : ℕ) (c : Cursor) → Judges s end at allowed es (KeyRead.Done n c) → Paths s at allowed text marks (KeyRead.Done n c)
+    → allowed ≤ max_path → (v : KeyRead) → Judges s end at allowed es (Ok v) → Paths s at allowed text marks (Ok v)
 unfolding sizes
-done-path s at allowed text marks end gs q [] r h z b w f n c u = absurd (omega (arith, u.4))
-done-path s at allowed text marks end gs q (e ∷ es) r h z b w f n c u =
+done-path s at allowed text marks end gs q [] r h z b w f v u = absurd (omega (arith, u.4))
+done-path s at allowed text marks end gs q (e ∷ es) r h z b w f v u =
     let m : length (keys_of es) ≡ length es = length-map es (λ (x : Element). record { text = x.text; place = x.place }) in
-    let count : n ≡ suc (length (keys_of es)) = omega (arith, u.3) in
+    let count : v.count ≡ suc (length (keys_of es)) = omega (arith, u.3) in
     let before : at < end = begins-before s at allowed end gs q (e ∷ es) r u.4 in (
       record { text = e.text; place = e.place },
       keys_of es,
@@ -211,19 +210,19 @@ done-path s at allowed text marks end gs q (e ∷ es) r h z b w f n c u =
       omega (arith, key-sizes es, u.6),
       λ value_at nesting items i.
           keyed-by s at allowed end gs q (e ∷ es) r u.4 value_at nesting items i
-          ∙ goes_on s end allowed at u.0 c.at.0 e es u.2 u.1 value_at nesting items
-          ∙ ap (λ y. valued value_at nesting c.at.0 (items + y) (record { text = e.text; place = e.place }) (keys_of es)) (sym count),
+          ∙ goes_on s end allowed at u.0 v.next.at.0 e es u.2 u.1 value_at nesting items
+          ∙ ap (λ y. valued value_at nesting v.next.at.0 (items + y) (record { text = e.text; place = e.place }) (keys_of es)) (sym count),
     )
 
 module _ {s : List ℕ} {at allowed : ℕ} {text marks : List ℕ} (a : PathAsked s at allowed text marks) {text₁ marks₁ : List ℕ} {j : Result Joined Refused}
     (k : ElementsIs true s at text marks text₁ marks₁ j) where
-  pub path-unjoined : {y : Refused} → j ≡ Err y → PathIs s at allowed text marks text₁ marks₁ (KeyRead.Refused y.number y.place)
+  pub path-unjoined : {y : Refused} → j ≡ Err y → PathIs s at allowed text marks text₁ marks₁ (Err y)
   path-unjoined {y} e =
       let (x, q, f, g) = unjoined k y e in
       record { is = (x, λ value_at nesting items i. keyed-fail s at x q value_at nesting items, f, g); same_text = k.same_out; same-marks = k.same-marks }
 
   module _ {p : Joined} (e : j ≡ Ok p) where
-    pub path-none : p.count ≡ 0 → PathIs s at allowed text marks text₁ marks₁ (KeyRead.Refused 3 p.next.at)
+    pub path-none : p.count ≡ 0 → PathIs s at allowed text marks text₁ marks₁ (Err (refusal 3 p.next.at))
     path-none z =
         let none-there : length (elements_of (joins k e).gs) ≡ 0 = omega (arith, (joins k e).count) in
         record {
@@ -240,8 +239,8 @@ module _ {s : List ℕ} {at allowed : ℕ} {text marks : List ℕ} (a : PathAske
     pub asks-judged : JudgeKeyAsked s p.next.at.0 allowed marks₁
     asks-judged = record { short = a.short; inside = (joins k e).inside; few = a.few; marks-room = omega (arith, k.same-marks, a.marks-room) }
 
-    judges : (r : KeyRead) → 0 < p.count → Judges s p.next.at.0 at allowed (elements_of (joins k e).gs) r → Paths s at allowed text₁ marks₁ r
-    judges (KeyRead.Refused m d) l u = (
+    judges : (r : Result KeyRead Refused) → 0 < p.count → Judges s p.next.at.0 at allowed (elements_of (joins k e).gs) r → Paths s at allowed text₁ marks₁ r
+    judges (Err y) l u = (
       u.0,
       λ value_at nesting items i.
           keyed-by s at allowed p.next.at.0 (joins k e).gs (joins k e).is (elements_of (joins k e).gs) refl (omega (arith, (joins k e).count))
@@ -249,12 +248,12 @@ module _ {s : List ℕ} {at allowed : ℕ} {text marks : List ℕ} (a : PathAske
       u.2,
       u.3,
     )
-    judges (KeyRead.Done m d) l u =
+    judges (Ok v) l u =
         let es = elements_of (joins k e).gs in
         done-path s at allowed text₁ marks₁ p.next.at.0 (joins k e).gs (joins k e).is es refl (joins k e).held (joins k e).short
-        (omega (arith, (joins k e).inside, a.short)) (elements-within s true at (joins k e).gs p.next.at.0 (joins k e).is) a.few m d u
+        (omega (arith, (joins k e).inside, a.short)) (elements-within s true at (joins k e).gs p.next.at.0 (joins k e).is) a.few v u
 
-    pub path-judged : {r : KeyRead} → (p.count ≡ 0 → ⊥) → JudgeKeyIs s p.next.at.0 p.count p.empty at allowed marks₁ r → PathIs s at allowed text marks text₁ marks₁ r
+    pub path-judged : {r : Result KeyRead Refused} → (p.count ≡ 0 → ⊥) → JudgeKeyIs s p.next.at.0 p.count p.empty at allowed marks₁ r → PathIs s at allowed text marks text₁ marks₁ r
     path-judged {r} z w = record {
       is = judges r (omega (arith, z)) (w.is (elements_of (joins k e).gs) text₁ (joins k e).held (joins k e).count (joins k e).empty);
       same_text = k.same_out;
@@ -272,7 +271,7 @@ unfolding field_at keyed
 field-by value_at s nesting at items = refl
 
 module _ {s : List ℕ} {left items : ℕ} {text marks : List ℕ} {f : Bool} {c : Cursor} (i : f ≡ starts_include s c.at.0) where
-  pub key-include : f ≡ true → KeyIs s left c.at.0 items text marks text marks (KeyRead.Refused 6 c.at)
+  pub key-include : f ≡ true → KeyIs s left c.at.0 items text marks text marks (Err (refusal 6 c.at))
   key-include t = record {
     is = (
       placed 6 c.at.0,
@@ -288,14 +287,14 @@ module _ {s : List ℕ} {left items : ℕ} {text marks : List ℕ} {f : Bool} {c
     pub asks-path : PathAsked s c.at.0 m text marks
     asks-path = record { short = a.short; inside = a.inside; few = h.few; room = a.room; marks-room = a.marks-room }
 
-    keys : (text₁ marks₁ : List ℕ) (r : KeyRead) → Paths s c.at.0 m text₁ marks₁ r → Keys s left c.at.0 items text₁ marks₁ r
-    keys text₁ marks₁ (KeyRead.Refused n d) u = (
+    keys : (text₁ marks₁ : List ℕ) (r : Result KeyRead Refused) → Paths s c.at.0 m text₁ marks₁ r → Keys s left c.at.0 items text₁ marks₁ r
+    keys text₁ marks₁ (Err y) u = (
       u.0,
       λ value_at. field-by value_at s (max_nesting - left) c.at.0 items ∙ rw (sym i ∙ t) (u.1 value_at (max_nesting - left) items h.is),
       u.2,
       u.3,
     )
-    keys text₁ marks₁ (KeyRead.Done n d) u = (
+    keys text₁ marks₁ (Ok v) u = (
       u.0,
       u.1,
       u.2,
@@ -309,7 +308,7 @@ module _ {s : List ℕ} {left items : ℕ} {text marks : List ℕ} {f : Bool} {c
       λ value_at. field-by value_at s (max_nesting - left) c.at.0 items ∙ rw (sym i ∙ t) (u.8 value_at (max_nesting - left) items h.is),
     )
 
-    pub key-path : {text₁ marks₁ : List ℕ} {r : KeyRead} → PathIs s c.at.0 m text marks text₁ marks₁ r
+    pub key-path : {text₁ marks₁ : List ℕ} {r : Result KeyRead Refused} → PathIs s c.at.0 m text marks text₁ marks₁ r
         → KeyIs s left c.at.0 items text marks text₁ marks₁ r
     key-path {text₁} {marks₁} {r} k = record { is = keys text₁ marks₁ r k.is; same_text = k.same_text; same-marks = k.same-marks }
 

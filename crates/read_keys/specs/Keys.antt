@@ -1,5 +1,5 @@
 -- What reading a key promises: all of the rules' field up to its value.
-use Rattle.std.specs.Prelude.{◌≡◌, ℕ, suc, ◌+◌, ◌-◌, ◌≤◌, ◌<◌, Bool, true, List, [], ◌∷◌, length}
+use Rattle.std.specs.Prelude.{Result, Ok, Err, ◌≡◌, ℕ, suc, ◌+◌, ◌-◌, ◌≤◌, ◌<◌, Bool, true, List, [], ◌∷◌, length}
 use Rattle.std.proofs.Math.Option.{none}
 use Rattle.rules.specs.Sizes.{max_document, max_items, max_nesting, max_path}
 use Rattle.rules.specs.Refusals.{Refusal, placed, number_of, place_of, ok, Read, got, refused, read_then, keep_items}
@@ -10,6 +10,7 @@ use Rattle.text_elements.specs.Marks.Marks.{marks_room}
 use Rattle.text_elements.specs.Marks.Holding.{Held}
 use Rattle.read_grammar.specs.Limits.Limits.{nesting_in_root}
 use Rattle.doc_items.specs.Keys.{HeldKeys, key_sizes}
+use Rattle.text_chars.specs.declared.Refusal.{Refusal as Refused}
 use Rattle.read_keys.specs.declared.KeyRead.{KeyRead}
 
 -- ---- the rules' field, by its parts
@@ -43,16 +44,16 @@ pub record JudgeKeyAsked (s : List ℕ) (end allowed : ℕ) (marks : List ℕ) :
   pub few : allowed ≤ max_path
   pub marks-room : marks_room ≤ length marks
 
-abbrev pub Judges : List ℕ → ℕ → ℕ → ℕ → List Element → KeyRead → Type 0
-Judges s end first allowed es (KeyRead.Done n c) =
-    (p : ℕ) × (value_place s end ≡ ok p c.at.0) × (judge first allowed es ≡ none) × (n ≡ length es) × (0 < length es) × (length es ≤ allowed)
-    × (end ≤ c.at.0) × (c.at.0 ≤ length s)
-Judges s end first allowed es (KeyRead.Refused m p) =
+abbrev pub Judges : List ℕ → ℕ → ℕ → ℕ → List Element → Result KeyRead Refused → Type 0
+Judges s end first allowed es (Ok v) =
+    (p : ℕ) × (value_place s end ≡ ok p v.next.at.0) × (judge first allowed es ≡ none) × (v.count ≡ length es) × (0 < length es)
+    × (length es ≤ allowed) × (end ≤ v.next.at.0) × (v.next.at.0 ≤ length s)
+Judges s end first allowed es (Err e) =
     (x : Refusal)
     × ((value_at : Values) (nesting items : ℕ) → field_judged value_at s nesting end items es (judge first allowed es) ≡ refused x)
-    × (m ≡ number_of x) × (p.0 ≡ place_of x)
+    × (e.number ≡ number_of x) × (e.place.0 ≡ place_of x)
 
-pub record JudgeKeyIs (s : List ℕ) (end count : ℕ) (empty : Bool) (first allowed : ℕ) (marks : List ℕ) (r : KeyRead) : Type 0 where
+pub record JudgeKeyIs (s : List ℕ) (end count : ℕ) (empty : Bool) (first allowed : ℕ) (marks : List ℕ) (r : Result KeyRead Refused) : Type 0 where
   pub is : (es : List Element) (out : List ℕ) → Held 0 0 es out marks → count ≡ length es → empty ≡ any_empty es → Judges s end first allowed es r
 
 -- ---- a key that does not start with `include`
@@ -64,18 +65,18 @@ pub record PathAsked (s : List ℕ) (at allowed : ℕ) (text marks : List ℕ) :
   pub room : length s ≤ length text + at
   pub marks-room : marks_room ≤ length marks
 
-abbrev pub Paths : List ℕ → ℕ → ℕ → List ℕ → List ℕ → KeyRead → Type 0
-Paths s at allowed text marks (KeyRead.Done n c) =
-    (k : Key) × (ks : List Key) × (n ≡ suc (length ks)) × (n ≤ allowed) × (at < c.at.0) × (c.at.0 ≤ length s)
-    × HeldKeys 0 0 (k ∷ ks) text marks × (key_sizes (k ∷ ks) + at ≤ c.at.0)
+abbrev pub Paths : List ℕ → ℕ → ℕ → List ℕ → List ℕ → Result KeyRead Refused → Type 0
+Paths s at allowed text marks (Ok v) =
+    (k : Key) × (ks : List Key) × (v.count ≡ suc (length ks)) × (v.count ≤ allowed) × (at < v.next.at.0) × (v.next.at.0 ≤ length s)
+    × HeldKeys 0 0 (k ∷ ks) text marks × (key_sizes (k ∷ ks) + at ≤ v.next.at.0)
     × ((value_at : Values) (nesting items : ℕ) → allowed ≡ allowed_keys nesting items
-    → keyed value_at s nesting at items ≡ valued value_at nesting c.at.0 (items + n) k ks)
-Paths s at allowed text marks (KeyRead.Refused m p) =
+    → keyed value_at s nesting at items ≡ valued value_at nesting v.next.at.0 (items + v.count) k ks)
+Paths s at allowed text marks (Err e) =
     (x : Refusal)
     × ((value_at : Values) (nesting items : ℕ) → allowed ≡ allowed_keys nesting items → keyed value_at s nesting at items ≡ refused x)
-    × (m ≡ number_of x) × (p.0 ≡ place_of x)
+    × (e.number ≡ number_of x) × (e.place.0 ≡ place_of x)
 
-pub record PathIs (s : List ℕ) (at allowed : ℕ) (text marks text' marks' : List ℕ) (r : KeyRead) : Type 0 where
+pub record PathIs (s : List ℕ) (at allowed : ℕ) (text marks text' marks' : List ℕ) (r : Result KeyRead Refused) : Type 0 where
   pub is : Paths s at allowed text' marks' r
   pub same_text : length text' ≡ length text
   pub same-marks : length marks' ≡ length marks
@@ -92,19 +93,19 @@ pub record KeyAsked (s : List ℕ) (at left items : ℕ) (text marks : List ℕ)
   pub marks-room : marks_room ≤ length marks
 
 -- the keys and the place of the value, with which the rules' field goes on; or its refusal
-abbrev pub Keys : List ℕ → ℕ → ℕ → ℕ → List ℕ → List ℕ → KeyRead → Type 0
-Keys s left at items text marks (KeyRead.Done n c) =
-    (k : Key) × (ks : List Key) × (n ≡ suc (length ks)) × (n ≤ max_path) × (items + n ≤ max_items) × (n ≤ left + 1)
-    × (at < c.at.0) × (c.at.0 ≤ length s)
-    × HeldKeys 0 0 (k ∷ ks) text marks × (key_sizes (k ∷ ks) + at ≤ c.at.0)
+abbrev pub Keys : List ℕ → ℕ → ℕ → ℕ → List ℕ → List ℕ → Result KeyRead Refused → Type 0
+Keys s left at items text marks (Ok v) =
+    (k : Key) × (ks : List Key) × (v.count ≡ suc (length ks)) × (v.count ≤ max_path) × (items + v.count ≤ max_items) × (v.count ≤ left + 1)
+    × (at < v.next.at.0) × (v.next.at.0 ≤ length s)
+    × HeldKeys 0 0 (k ∷ ks) text marks × (key_sizes (k ∷ ks) + at ≤ v.next.at.0)
     × ((value_at : ℕ → ℕ → ℕ → Read Node) → field_at value_at s (max_nesting - left) at items
-    ≡ read_then (value_at (max_nesting - left + length ks) c.at.0 (items + n)) (λ node end items₂.
+    ≡ read_then (value_at (max_nesting - left + length ks) v.next.at.0 (items + v.count)) (λ node end items₂.
     got (record { key = k; value = inside ks node }) end items₂))
-Keys s left at items text marks (KeyRead.Refused m p) =
+Keys s left at items text marks (Err e) =
     (x : Refusal) × ((value_at : ℕ → ℕ → ℕ → Read Node) → field_at value_at s (max_nesting - left) at items ≡ refused x)
-    × (m ≡ number_of x) × (p.0 ≡ place_of x)
+    × (e.number ≡ number_of x) × (e.place.0 ≡ place_of x)
 
-pub record KeyIs (s : List ℕ) (left at items : ℕ) (text marks text' marks' : List ℕ) (r : KeyRead) : Type 0 where
+pub record KeyIs (s : List ℕ) (left at items : ℕ) (text marks text' marks' : List ℕ) (r : Result KeyRead Refused) : Type 0 where
   pub is : Keys s left at items text' marks' r
   pub same_text : length text' ≡ length text
   pub same-marks : length marks' ≡ length marks

@@ -1,5 +1,5 @@
 -- What the promises of reading say of each refusal, number by number: what any code that keeps them answers. No code is here.
-use Rattle.std.specs.Prelude.{◌≡◌, refl, ℕ, false, List}
+use Rattle.std.specs.Prelude.{Ok, ◌≡◌, refl, ℕ, false, List}
 use Rattle.std.proofs.Common.{ap, ◌∙◌}
 use Rattle.std.proofs.Math.Option.{some}
 use Rattle.std.proofs.Math.ListN.{get_elem?}
@@ -11,7 +11,6 @@ use Rattle.rules.specs.Unresolved.{Unresolved, unresolved_in}
 use Rattle.rules.specs.Documents.{Document, refused, limited, of_root, read_tree, read_document, inputs}
 use Rattle.read_documents.specs.Trees.{TreeIs}
 use Rattle.read_documents.specs.declared.Counters.{Counters}
-use Rattle.read_documents.specs.declared.Tree.{Tree}
 use Rattle.read_documents.specs.Clauses.{Told, reading_told, DocumentIs, InputsIs}
 use Rattle.read_documents.specs.declared.Reading.{Reading}
 
@@ -75,6 +74,6 @@ excess-is-8 {s} root end items u e f h =
 -- ---- trees
 
 -- behind a document as many nestings are left as before it, and the items are those that the rules counted on from the ones before
-pub counters-go-on : {s table text table' text' : List ℕ} {c d : Counters} → TreeIs s c table text table' text' (Tree.Done d)
+pub counters-go-on : {s table text table' text' : List ℕ} {c d : Counters} → TreeIs s c table text table' text' (Ok d)
     → d.left ≡ c.left
 counters-go-on h = h.is.3

@@ -2,4 +2,3 @@ pub mod Openings
 pub mod Endings
 pub mod Held
 pub mod References
-pub mod Parts

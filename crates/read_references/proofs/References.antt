@@ -13,6 +13,7 @@ use Rattle.rules.specs.Bytes.{Text, byte_at}
 use Rattle.rules.specs.Refusals.{Refusal, not_allowed, ok, refused, and_then}
 use Rattle.rules.specs.Paths.{segments_at, Element, elements_of, judge, texts_of, braced, sizes}
 use Rattle.theory_text.specs.Ascii.{ascii-character, ascii-byte, ascii-next}
+use Rattle.text_chars.specs.Cursor.{refusal}
 use Rattle.text_chars.specs.declared.DocAt.{DocAt}
 use Rattle.text_chars.specs.declared.Refusal.{Refusal as Refused}
 use Rattle.text_chars.specs.declared.TextLen.{TextLen}
@@ -29,7 +30,6 @@ use Rattle.text_paths.specs.declared.Joined.{Joined}
 use Rattle.doc_items.specs.Codes.{path_texts, path_ends}
 use Rattle.read_references.specs.References.{ends_to, OpenedIs, substitute, braced_scan, BraceAsked, Braces, BraceIs, Betweens, BetweenIs, EndsAsked, EndsIs, ReferenceAsked, ReferenceIs}
 use Rattle.read_references.specs.declared.Opened.{Opened}
-use Rattle.read_references.specs.declared.Brace.{Brace}
 use Rattle.read_references.specs.declared.Between.{Between}
 use Rattle.read_references.specs.declared.ReferenceRead.{ReferenceRead}
 use Rattle.read_references.proofs.Openings.{byte_inside}
@@ -42,7 +42,7 @@ module _ {s : List ℕ} {c : Cursor} {count : ℕ} {empty : Bool} {dollar : DocA
     closes : byte_at s c.at.0 ≡ 125
     closes = ascii-byte s c.at.0 (omega (arith, h.is)) ∙ sym h.is ∙ e
 
-    pub brace-fine : v ≡ Ok tt → BraceIs s c.at.0 count empty dollar.0 marks (Brace.Past here.next)
+    pub brace-fine : v ≡ Ok tt → BraceIs s c.at.0 count empty dollar.0 marks (Ok here.next)
     unfolding braced_scan
     brace-fine z =
         let q : byte_at s c.at.0 ≡ 125 = closes in
@@ -64,7 +64,7 @@ module _ {s : List ℕ} {c : Cursor} {count : ℕ} {empty : Bool} {dollar : DocA
     unfolding braced_scan
     fails es optional x o = rw (eq-eqb (byte_at s c.at.0) 125 closes, o, braced_scan)
 
-    pub brace-judged : {y : Refused} → v ≡ Err y → BraceIs s c.at.0 count empty dollar.0 marks (Brace.Refused y.number y.place)
+    pub brace-judged : {y : Refused} → v ≡ Err y → BraceIs s c.at.0 count empty dollar.0 marks (Err y)
     brace-judged {y} z = record {
       is = λ es out w i j.
           let (x, o, f, g) = verdict-bad dollar.0 max_path es y (sym z ∙ k.is es out w i j) in
@@ -72,7 +72,7 @@ module _ {s : List ℕ} {c : Cursor} {count : ℕ} {empty : Bool} {dollar : DocA
     }
 
   pub brace-missing : {n : ℕ} → (here.ch ≡ 125 → ⊥) → NotAllowedIs s c.at.0 n
-      → BraceIs s c.at.0 count empty dollar.0 marks (Brace.Refused n c.at)
+      → BraceIs s c.at.0 count empty dollar.0 marks (Err (refusal n c.at))
   unfolding braced_scan
   brace-missing e k =
       let q : byte_at s c.at.0 ≡ 125 → ⊥ = λ z. e (h.is ∙ ascii-character s c.at.0 (omega arith) ∙ z) in
@@ -96,7 +96,7 @@ module _ {s : List ℕ} {start : ℕ} {text marks : List ℕ} (a : ElementsAsked
   room : marks_room ≤ length marks₁
   room = omega (arith, k.same-marks, a.marks-room)
 
-  pub between-unjoined : {dollar : ℕ} {y : Refused} → j ≡ Err y → BetweenIs s start dollar text text₁ marks₁ (Between.Refused y.number y.place)
+  pub between-unjoined : {dollar : ℕ} {y : Refused} → j ≡ Err y → BetweenIs s start dollar text text₁ marks₁ (Err y)
   between-unjoined {dollar} {y} e =
       let (x, q, f, g) = unjoined k y e in
       record { is = (x, λ o. braced-by s dollar o start ∙ rw q, f, g); kept = k.same_out; marks-room = room }
@@ -109,19 +109,19 @@ module _ {s : List ℕ} {start : ℕ} {text marks : List ℕ} (a : ElementsAsked
     by-elements : (dollar : ℕ) (o : Bool) → braced s dollar o start ≡ braced_scan s dollar o (elements_of (joins k e).gs) q.next.at.0
     by-elements dollar o = braced-by s dollar o start ∙ rw (joins k e).is
 
-    module _ {dollar : ℕ} {b : Brace} (w : BraceIs s q.next.at.0 q.count q.empty dollar marks₁ b) where
+    module _ {dollar : ℕ} {b : Result Cursor Refused} (w : BraceIs s q.next.at.0 q.count q.empty dollar marks₁ b) where
       ending : Braces s dollar (elements_of (joins k e).gs) q.next.at.0 b
       ending = w.is (elements_of (joins k e).gs) text₁ (joins k e).held (joins k e).count (joins k e).empty
 
-      pub between-unclosed : {m : ℕ} {d : DocAt} → b ≡ Brace.Refused m d → BetweenIs s start dollar text text₁ marks₁ (Between.Refused m d)
-      between-unclosed {m} {d} z =
-          let u : Braces s dollar (elements_of (joins k e).gs) q.next.at.0 (Brace.Refused m d) = rw z at ending in
+      pub between-unclosed : {y : Refused} → b ≡ Err y → BetweenIs s start dollar text text₁ marks₁ (Err y)
+      between-unclosed {y} z =
+          let u : Braces s dollar (elements_of (joins k e).gs) q.next.at.0 (Err y) = rw z at ending in
           record { is = (u.0, λ o. by-elements dollar o ∙ u.1 o, u.2, u.3); kept = k.same_out; marks-room = room }
 
-      pub between_done : {p : Cursor} → b ≡ Brace.Past p → BetweenIs s start dollar text text₁ marks₁ (Between.Done q.count p)
+      pub between_done : {p : Cursor} → b ≡ Ok p → BetweenIs s start dollar text text₁ marks₁ (Ok (record { count = q.count; next = p }))
       between_done {p} z =
           let es = elements_of (joins k e).gs in
-          let u : Braces s dollar es q.next.at.0 (Brace.Past p) = rw z at ending in
+          let u : Braces s dollar es q.next.at.0 (Ok p) = rw z at ending in
           record {
             is = (
               es,
@@ -141,30 +141,30 @@ pub ruleset betweens = (between-unjoined, between-unclosed, between_done)
 
 -- ---- the whole substitution
 
-module _ {s : List ℕ} {at : ℕ} {text : List ℕ} (a : ReferenceAsked s at text) {o : Opened} (h : OpenedIs s at o) {text₁ marks : List ℕ} {j : Between}
+module _ {s : List ℕ} {at : ℕ} {text : List ℕ} (a : ReferenceAsked s at text) {o : Opened} (h : OpenedIs s at o) {text₁ marks : List ℕ} {j : Result Between Refused}
     (k : BetweenIs s o.next.at.0 at text text₁ marks j) where
-  pub reference-refused : {n : ℕ} {d : DocAt} → j ≡ Between.Refused n d → ReferenceIs s at text text₁ (ReferenceRead.Refused n d)
-  reference-refused {n} {d} e =
-      let u : Betweens s o.next.at.0 at text₁ marks (Between.Refused n d) = rw e at k.is in
+  pub reference-refused : {y : Refused} → j ≡ Err y → ReferenceIs s at text text₁ (Err y)
+  reference-refused {y} e =
+      let u : Betweens s o.next.at.0 at text₁ marks (Err y) = rw e at k.is in
       record { is = (u.0, h.is ∙ u.1 o.optional, u.2, u.3); kept = k.kept }
 
-  module _ {n : ℕ} {c : Cursor} (e : j ≡ Between.Done n c) where
-    done : Betweens s o.next.at.0 at text₁ marks (Between.Done n c)
+  module _ {v : Between} (e : j ≡ Ok v) where
+    done : Betweens s o.next.at.0 at text₁ marks (Ok v)
     done = rw e at k.is
 
     -- where the last end stands
-    last_end : end_of marks (n - 1) ≡ sizes done.0
+    last_end : end_of marks (v.count - 1) ≡ sizes done.0
     last_end =
         let es = done.0 in
-        let i : n - 1 ≡ 0 + (length es - 1) = omega (arith, done.3) in
+        let i : v.count - 1 ≡ 0 + (length es - 1) = omega (arith, done.3) in
         let l : length es ≡ suc (length es - 1) = omega (arith, done.4) in
         let q : 0 + sizes es ≡ sizes es = omega arith in
         rw i (held-last 0 0 (length es - 1) es text₁ marks l (omega (arith, done.5)) done.2 ∙ q)
 
-    fits : sizes done.0 + 2 * n + 2 * at ≤ 2 * c.at.0
+    fits : sizes done.0 + 2 * v.count + 2 * at ≤ 2 * v.next.at.0
     fits = omega (arith, done.6, done.3, h.forward)
 
-    pub asks-ends : EndsAsked marks n text₁
+    pub asks-ends : EndsAsked marks v.count text₁
     asks-ends =
         let es = done.0 in
         record {
@@ -173,22 +173,22 @@ module _ {s : List ℕ} {at : ℕ} {text : List ℕ} (a : ReferenceAsked s at te
           marks-room = k.marks-room;
           low = λ i l.
               let q : 0 + i ≡ i = omega arith in
-              let v : end_of marks (0 + i) ≤ 0 + sizes es = held_low 0 0 i es text₁ marks (omega (arith, done.3)) (omega (arith, done.3, done.5)) done.2 in
-              let w : end_of marks i ≤ 0 + sizes es = rw q at v in
+              let u : end_of marks (0 + i) ≤ 0 + sizes es = held_low 0 0 i es text₁ marks (omega (arith, done.3)) (omega (arith, done.3, done.5)) done.2 in
+              let w : end_of marks i ≤ 0 + sizes es = rw q at u in
               omega (arith, w, done.6, done.7, a.short);
           room = omega (arith, last_end, fits, done.7, a.room, k.kept);
         }
 
-    pub reference-done : {text₂ : List ℕ} {y : TextLen} → EndsIs marks n text₁ text₂ y
-        → ReferenceIs s at text text₂ (ReferenceRead.Done o.optional n y c)
+    pub reference-done : {text₂ : List ℕ} {y : TextLen} → EndsIs marks v.count text₁ text₂ y
+        → ReferenceIs s at text text₂ (Ok (record { optional = o.optional; count = v.count; size = y; next = v.next }))
     unfolding ends_to
-    reference-done {text₂} {y} v =
+    reference-done {text₂} {y} w =
         let es = done.0 in
-        let size : y.0 ≡ sizes es = v.is ∙ last_end in
+        let size : y.0 ≡ sizes es = w.is ∙ last_end in
         let room : 0 + sizes es ≤ length text₁ = omega (arith, fits, done.7, a.room, k.kept) in
         let texts : take y.0 text₁ ≡ path_texts (texts_of es) = rw size (held-texts 0 0 es text₁ marks room done.2) in
-        let count : 0 + length es ≡ n = omega (arith, done.3) in
-        let ends : ends_to marks n ≡ path_ends 0 (texts_of es) = rw count at (held-ends 0 0 es text₁ marks (omega (arith, done.5)) done.2) in
+        let count : 0 + length es ≡ v.count = omega (arith, done.3) in
+        let ends : ends_to marks v.count ≡ path_ends 0 (texts_of es) = rw count at (held-ends 0 0 es text₁ marks (omega (arith, done.5)) done.2) in
         record {
           is = (
             substitute at o.optional es,
@@ -198,12 +198,12 @@ module _ {s : List ℕ} {at : ℕ} {text : List ℕ} (a : ReferenceAsked s at te
             done.3 ∙ sym (length-map es (λ (x : Element). x.text)),
             omega (arith, done.3, done.5),
             size ∙ sym (texts-length es),
-            v.wrote ∙ ap (λ (t : Text). t ++ ends_to marks n) texts ∙ ap (λ (t : Text). path_texts (texts_of es) ++ t) ends,
+            w.wrote ∙ ap (λ (t : Text). t ++ ends_to marks v.count) texts ∙ ap (λ (t : Text). path_texts (texts_of es) ++ t) ends,
             omega (arith, done.6, h.forward),
             done.7,
             omega (arith, size, fits),
           );
-          kept = v.kept ∙ k.kept;
+          kept = w.kept ∙ k.kept;
         }
 
 pub ruleset references = (reference-refused, reference-done)

@@ -1,5 +1,5 @@
 -- What reading a substitution promises.
-use Rattle.std.specs.Prelude.{◌≡◌, ℕ, zero, suc, ◌+◌, ◌-◌, ◌*◌, ◌/◌, ◌%◌, ◌≤◌, ◌<◌, Bool, true, false, List, [], ◌∷◌, ◌++◌, eqb, length, take}
+use Rattle.std.specs.Prelude.{Result, Ok, Err, ◌≡◌, ℕ, zero, suc, ◌+◌, ◌-◌, ◌*◌, ◌/◌, ◌%◌, ◌≤◌, ◌<◌, Bool, true, false, List, [], ◌∷◌, ◌++◌, eqb, length, take}
 use Rattle.rules.specs.Sizes.{max_document, max_path}
 use Rattle.rules.specs.Bytes.{byte_at}
 use Rattle.rules.specs.Refusals.{Refusal, number_of, place_of, not_allowed, Scan, ok, refused}
@@ -8,9 +8,10 @@ use Rattle.rules.specs.Tree.{Substitution}
 use Rattle.text_elements.specs.Marks.Marks.{marks_room, end_of}
 use Rattle.text_elements.specs.Marks.Holding.{Held}
 use Rattle.text_chars.specs.declared.TextLen.{TextLen}
+use Rattle.text_chars.specs.declared.Cursor.{Cursor}
+use Rattle.text_chars.specs.declared.Refusal.{Refusal as Refused}
 use Rattle.doc_items.specs.Codes.{path_texts, path_bytes}
 use Rattle.read_references.specs.declared.Opened.{Opened}
-use Rattle.read_references.specs.declared.Brace.{Brace}
 use Rattle.read_references.specs.declared.Between.{Between}
 use Rattle.read_references.specs.declared.ReferenceRead.{ReferenceRead}
 
@@ -47,28 +48,28 @@ braced_scan s dollar optional es end =
       | true ↦ judged (judge dollar max_path es) (substitute dollar optional es) (end + 1)
     ]
 
-abbrev pub Braces : List ℕ → ℕ → List Element → ℕ → Brace → Type 0
-Braces s dollar es end (Brace.Past c) =
+abbrev pub Braces : List ℕ → ℕ → List Element → ℕ → Result Cursor Refused → Type 0
+Braces s dollar es end (Ok c) =
     ((optional : Bool) → braced_scan s dollar optional es end ≡ ok (substitute dollar optional es) c.at.0)
     × (c.at.0 ≡ end + 1) × (end < length s) × (0 < length es) × (length es ≤ max_path)
-Braces s dollar es end (Brace.Refused n p) =
-    (x : Refusal) × ((optional : Bool) → braced_scan s dollar optional es end ≡ refused x) × (n ≡ number_of x) × (p.0 ≡ place_of x)
+Braces s dollar es end (Err e) =
+    (x : Refusal) × ((optional : Bool) → braced_scan s dollar optional es end ≡ refused x) × (e.number ≡ number_of x) × (e.place.0 ≡ place_of x)
 
-pub record BraceIs (s : List ℕ) (end count : ℕ) (empty : Bool) (dollar : ℕ) (marks : List ℕ) (r : Brace) : Type 0 where
+pub record BraceIs (s : List ℕ) (end count : ℕ) (empty : Bool) (dollar : ℕ) (marks : List ℕ) (r : Result Cursor Refused) : Type 0 where
   pub is : (es : List Element) (out : List ℕ) → Held 0 0 es out marks → count ≡ length es → empty ≡ any_empty es → Braces s dollar es end r
 
 -- ---- the path between the braces
 
 -- its elements stand in the buffers
-abbrev pub Betweens : List ℕ → ℕ → ℕ → List ℕ → List ℕ → Between → Type 0
-Betweens s at dollar text marks (Between.Done n c) =
-    (es : List Element) × ((optional : Bool) → braced s dollar optional at ≡ ok (substitute dollar optional es) c.at.0)
-    × Held 0 0 es text marks × (n ≡ length es) × (0 < length es) × (length es ≤ max_path)
-    × (sizes es + length es + at ≤ c.at.0) × (c.at.0 ≤ length s)
-Betweens s at dollar text marks (Between.Refused n p) =
-    (x : Refusal) × ((optional : Bool) → braced s dollar optional at ≡ refused x) × (n ≡ number_of x) × (p.0 ≡ place_of x)
+abbrev pub Betweens : List ℕ → ℕ → ℕ → List ℕ → List ℕ → Result Between Refused → Type 0
+Betweens s at dollar text marks (Ok v) =
+    (es : List Element) × ((optional : Bool) → braced s dollar optional at ≡ ok (substitute dollar optional es) v.next.at.0)
+    × Held 0 0 es text marks × (v.count ≡ length es) × (0 < length es) × (length es ≤ max_path)
+    × (sizes es + length es + at ≤ v.next.at.0) × (v.next.at.0 ≤ length s)
+Betweens s at dollar text marks (Err e) =
+    (x : Refusal) × ((optional : Bool) → braced s dollar optional at ≡ refused x) × (e.number ≡ number_of x) × (e.place.0 ≡ place_of x)
 
-pub record BetweenIs (s : List ℕ) (at dollar : ℕ) (before after marks : List ℕ) (r : Between) : Type 0 where
+pub record BetweenIs (s : List ℕ) (at dollar : ℕ) (before after marks : List ℕ) (r : Result Between Refused) : Type 0 where
   pub is : Betweens s at dollar after marks r
   pub kept : length after ≡ length before
   pub marks-room : marks_room ≤ length marks
@@ -102,14 +103,15 @@ pub record ReferenceAsked (s : List ℕ) (at : ℕ) (text : List ℕ) : Type 0 w
   pub room : 2 * (length s - at) ≤ length text
 
 -- the substitution by the rules with its path at the start of the buffer, or its refusal
-abbrev pub References : List ℕ → ℕ → List ℕ → ReferenceRead → Type 0
-References s at after (ReferenceRead.Done o n z c) =
-    (x : Substitution) × (substitution_at s at ≡ ok x c.at.0) × (x.place ≡ at) × (x.optional ≡ o) × (n ≡ length x.path) × (n ≤ max_path)
-    × (z.0 ≡ length (path_texts x.path)) × (take (z.0 + 2 * n) after ≡ path_bytes x.path)
-    × (at < c.at.0) × (c.at.0 ≤ length s) × (z.0 + 2 * n + 2 * at ≤ 2 * c.at.0)
-References s at after (ReferenceRead.Refused n p) =
-    (x : Refusal) × (substitution_at s at ≡ refused x) × (n ≡ number_of x) × (p.0 ≡ place_of x)
+abbrev pub References : List ℕ → ℕ → List ℕ → Result ReferenceRead Refused → Type 0
+References s at after (Ok v) =
+    (x : Substitution) × (substitution_at s at ≡ ok x v.next.at.0) × (x.place ≡ at) × (x.optional ≡ v.optional)
+    × (v.count ≡ length x.path) × (v.count ≤ max_path)
+    × (v.size.0 ≡ length (path_texts x.path)) × (take (v.size.0 + 2 * v.count) after ≡ path_bytes x.path)
+    × (at < v.next.at.0) × (v.next.at.0 ≤ length s) × (v.size.0 + 2 * v.count + 2 * at ≤ 2 * v.next.at.0)
+References s at after (Err e) =
+    (x : Refusal) × (substitution_at s at ≡ refused x) × (e.number ≡ number_of x) × (e.place.0 ≡ place_of x)
 
-pub record ReferenceIs (s : List ℕ) (at : ℕ) (before after : List ℕ) (r : ReferenceRead) : Type 0 where
+pub record ReferenceIs (s : List ℕ) (at : ℕ) (before after : List ℕ) (r : Result ReferenceRead Refused) : Type 0 where
   pub is : References s at after r
   pub kept : length after ≡ length before

@@ -9,26 +9,17 @@ ghost use Rattle.read_references.specs.References.{EndsAsked, EndsIs, ReferenceA
 ghost use Rattle.read_references.specs.ReferencePieces.{ReferencePieceAsked, ReferencePieceIs};
 
 use codes::{bytes, limits};
-use read_values::pieces::{PieceItem, PieceRead};
-use text_chars::{Cursor, DocAt, TextAt, TextLen};
-use text_paths::Joined;
+use read_values::pieces::PieceItem;
+use text_chars::{Cursor, DocAt, Refusal, TextAt, TextLen};
 
-// A substitution that was read. The texts of its path's elements stand at the start of the buffer one behind the other, and behind them
-// the end of each in two bytes.
+// A substitution that was read: whether it is optional, how many elements its path has, the size of their texts, and the cursor past it.
+// The texts stand at the start of the buffer one behind the other, and behind them the end of each in two bytes.
 #[derive(Clone, Copy)]
-enum ReferenceRead {
-    // whether it is optional, how many elements its path has, the size of their texts, and the cursor past it
-    Done {
-        optional: bool,
-        count: usize,
-        size: TextLen,
-        next: Cursor,
-    },
-    // it is refused with a number at a place
-    Refused {
-        number: u8,
-        place: DocAt,
-    },
+struct ReferenceRead {
+    optional: bool,
+    count: usize,
+    size: TextLen,
+    next: Cursor,
 }
 
 // The first bytes of a substitution: whether it is optional, and the cursor where its path begins.
@@ -49,10 +40,9 @@ fn after_brace(s: &[u8], c: Cursor) -> Opened
     let here = text_scan::look(s, third);
     let ch = here.ch;
     if ch == bytes::QUESTION {
-        let fourth = here.next;
         return Opened {
             optional: true,
-            next: text_scan::after_inline(s, fourth),
+            next: text_scan::after_inline(s, here.next),
         };
     }
     Opened {
@@ -61,15 +51,7 @@ fn after_brace(s: &[u8], c: Cursor) -> Opened
     }
 }
 
-// The last byte of a substitution.
-#[derive(Clone, Copy)]
-enum Brace {
-    // the cursor past it
-    Past(Cursor),
-    // the path is refused with a number at a place, or no `}` stands here
-    Refused { number: u8, place: DocAt },
-}
-
+// Past the last byte of a substitution; refused is its path, or that no `}` stands here.
 fn close_reference(
     s: &[u8],
     end: Cursor,
@@ -77,36 +59,26 @@ fn close_reference(
     empty: bool,
     dollar: DocAt,
     marks: &[usize],
-) -> Brace
+) -> Result<Cursor, Refusal>
     requires { BraceAsked s.now end.at.0 marks.now }
     ensures { BraceIs s.now end.at.0 count empty dollar.0 marks.now result }
 {
     let here = text_scan::look(s, end);
-    let ch = here.ch;
-    if ch == bytes::CLOSE_BRACE {
-        let after = here.next;
-        return match text_elements::marks::judge_path(count, empty, dollar, marks) {
-            Ok(()) => Brace::Past(after),
-            Err(e) => Brace::Refused {
-                number: e.number,
-                place: e.place,
-            },
-        };
+    if here.ch == bytes::CLOSE_BRACE {
+        text_elements::marks::judge_path(count, empty, dollar, marks)?;
+        return Ok(here.next);
     }
-    let place = end.at;
-    Brace::Refused {
+    Err(Refusal {
         number: read_grammar::not_allowed(s, end),
-        place,
-    }
+        place: end.at,
+    })
 }
 
-// A substitution's path up to its `}`.
+// A substitution's path up to its `}`: how many elements it has, and the cursor past the `}`.
 #[derive(Clone, Copy)]
-enum Between {
-    // how many elements it has, and the cursor past the `}`
-    Done { count: usize, next: Cursor },
-    // it is refused with a number at a place
-    Refused { number: u8, place: DocAt },
+struct Between {
+    count: usize,
+    next: Cursor,
 }
 
 fn path_between(
@@ -115,22 +87,16 @@ fn path_between(
     dollar: DocAt,
     text: &mut [u8],
     marks: &mut [usize],
-) -> Between
+) -> Result<Between, Refusal>
     requires { ElementsAsked s.now start.at.0 text.old marks.old }
     ensures { BetweenIs s.now start.at.0 dollar.0 text.old text.new marks.new result }
 {
-    match text_paths::elements(s, start, false, text, marks) {
-        Err(e) => Between::Refused {
-            number: e.number,
-            place: e.place,
-        },
-        Ok(Joined { count, empty, next }) => {
-            match close_reference(s, next, count, empty, dollar, marks) {
-                Brace::Refused { number, place } => Between::Refused { number, place },
-                Brace::Past(after) => Between::Done { count, next: after },
-            }
-        }
-    }
+    let path = text_paths::elements(s, start, false, text, marks)?;
+    let next = close_reference(s, path.next, path.count, path.empty, dollar, marks)?;
+    Ok(Between {
+        count: path.count,
+        next,
+    })
 }
 
 // Writes the ends of a path's elements behind their texts; the answer is the size of the texts.
@@ -141,58 +107,51 @@ fn write_ends(marks: &[usize], count: usize, text: &mut [u8]) -> TextLen
     let last = count - 1;
     let whole = text_elements::marks::end_at(marks, last);
     let size = whole.0;
-    let mut i = 0;
-    while i < count {
+    for i in 0..count {
         let end = text_elements::marks::end_at(marks, i);
-        let e = end.0;
         let k = size + 2 * i;
-        text[k] = (e / 256) as u8;
-        text[k + 1] = (e % 256) as u8;
-        i += 1;
+        text[k] = (end.0 / 256) as u8;
+        text[k + 1] = (end.0 % 256) as u8;
     }
     TextLen(size)
 }
 
 // The substitution at a `${`.
-fn reference(s: &[u8], c: Cursor, text: &mut [u8]) -> ReferenceRead
+fn reference(s: &[u8], c: Cursor, text: &mut [u8]) -> Result<ReferenceRead, Refusal>
     requires { ReferenceAsked s.now c.at.0 text.old }
     ensures { ReferenceIs s.now c.at.0 text.old text.new result }
 {
     let mut marks = [0usize; limits::MARKS];
     let o = after_brace(s, c);
-    let optional = o.optional;
     let start = o.next;
     let dollar = c.at;
-    match path_between(s, start, dollar, text, &mut marks) {
-        Between::Refused { number, place } => ReferenceRead::Refused { number, place },
-        Between::Done { count, next } => ReferenceRead::Done {
-            optional,
-            count,
-            size: write_ends(&marks, count, text),
-            next,
-        },
-    }
+    let path = path_between(s, start, dollar, text, &mut marks)?;
+    Ok(ReferenceRead {
+        optional: o.optional,
+        count: path.count,
+        size: write_ends(&marks, path.count, text),
+        next: path.next,
+    })
 }
 
 /// The substitution at a `${` as a piece, its path at the start of the text part.
-pub fn reference_piece(s: &[u8], c: Cursor, w: TextAt, items: usize, text: &mut [u8]) -> PieceRead
+pub fn reference_piece(
+    s: &[u8],
+    c: Cursor,
+    w: TextAt,
+    items: usize,
+    text: &mut [u8],
+) -> Result<Option<PieceItem>, Refusal>
     requires { ReferencePieceAsked s.now c.at.0 items text.old }
     ensures { ReferencePieceIs s.now c.at.0 w.0 items text.old text.new result }
 {
-    match reference(s, c, text) {
-        ReferenceRead::Refused { number, place } => PieceRead::Refused { number, place },
-        ReferenceRead::Done {
-            optional,
-            count,
-            size,
-            next,
-        } => PieceRead::Done(PieceItem {
-            next,
-            items: items + 1,
-            kind: read_values::pieces::reference_kind(optional),
-            text: w,
-            size,
-            number: count,
-        }),
-    }
+    let read = reference(s, c, text)?;
+    Ok(Some(PieceItem {
+        next: read.next,
+        items: items + 1,
+        kind: read_values::pieces::reference_kind(read.optional),
+        text: w,
+        size: read.size,
+        number: read.count,
+    }))
 }

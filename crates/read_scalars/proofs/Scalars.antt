@@ -1,8 +1,8 @@
 -- One law for each answer of the functions that read a simple value.
+use Rattle.std.specs.Prelude.{Result, Ok, Err}
 use mathlib.Core.Path.{◌≡◌, refl, sym, ◌∙◌, ap}
 use mathlib.Core.Bool.{Bool, true, false, ◌||◌}
 use mathlib.Core.List.{List, ◌++◌}
-use Rattle.std.specs.Prelude.{Result, Ok, Err}
 use Prim.Native.Nat.{ℕ, ◌-◌, ◌≤◌, ◌<◌}
 use native.Mathlib.Omega.{arith}
 use lib.ListN.{length, drop}
@@ -29,12 +29,15 @@ use Rattle.read_scalars.specs.declared.ScalarRead.{ScalarRead}
 
 -- ---- a copy
 
+abbrev written : ℕ → Cursor → ℕ → ScalarRead
+written kind c n = record { kind = kind; next = c; size = record { 0 = n } }
+
 pub written_is : {s : List ℕ} {at kind : ℕ} {c : Cursor} {before after : List ℕ} {n : ℕ} → WrittenAsked s at c.at.0 before
-    → WriteIs (slice at c.at.0 s) before after n → WrittenIs s at kind c before after (ScalarRead.Done kind c (record { 0 = n }))
+    → WriteIs (slice at c.at.0 s) before after n → WrittenIs s at kind c before after (record { kind = kind; next = c; size = record { 0 = n } })
 written_is {s} {at} {kind} {c} {before} {after} {n} a k =
     let e : n ≡ c.at.0 - at = k.is ∙ length-slice at c.at.0 s a.inside in
     record {
-      is = ap (λ m. ScalarRead.Done kind c (record { 0 = m })) e;
+      is = ap (written kind c) e;
       wrote = rw k.bytes (take_at (slice at c.at.0 s) (drop (length (slice at c.at.0 s)) before) (c.at.0 - at) (length-slice at c.at.0 s a.inside));
       kept = k.kept;
     }
@@ -120,7 +123,7 @@ stringed s at =
 -- ---- the answers
 
 module _ {s : List ℕ} {at : ℕ} {before mid : List ℕ} {r : Result Piece Refusal} (a : PieceAsked s at before) (k : PieceIs (simple_at s at) s at before mid r) where
-  pub scalar-refused : {x : Refusal} → r ≡ Err x → ScalarIs s at before mid (ScalarRead.Refused x.number x.place)
+  pub scalar-refused : {x : Refusal} → r ≡ Err x → ScalarIs s at before mid (Err x)
   scalar-refused {x} e = record { is = refused-inv (simple_at s at) x (sym e ∙ k.is); kept = k.kept }
 
   laid-quoted : (t : Token) (end : ℕ) → simple_at s at ≡ ok t end → t.in_quotes ≡ true
@@ -132,7 +135,7 @@ module _ {s : List ℕ} {at : ℕ} {before mid : List ℕ} {r : Result Piece Ref
       go true z h = h
       go false z h = clash (cc)
 
-  pub scalar-quoted : {x : Piece} {c : Cursor} {u : TextLen} → r ≡ Ok x → x ≡ Piece.Quoted c u → ScalarIs s at before mid (ScalarRead.Done 5 c u)
+  pub scalar-quoted : {x : Piece} {c : Cursor} {u : TextLen} → r ≡ Ok x → x ≡ Piece.Quoted c u → ScalarIs s at before mid (Ok (record { kind = 5; next = c; size = u }))
   scalar-quoted {x} {c} {u} i' j =
       let e : r ≡ Ok (Piece.Quoted c u) = i' ∙ ap Ok j in
       let m : Moved (length s) at (Ok (Piece.Quoted c u)) = rw e at k.moved in
@@ -155,7 +158,7 @@ module _ {s : List ℕ} {at : ℕ} {before mid : List ℕ} {r : Result Piece Ref
 
   -- a piece as written
   as_written : (c : Cursor) (kind : ℕ) (x : Piece) → r ≡ Ok x → Bare x c kind → at < c.at.0 → c.at.0 ≤ length s
-      → {after : List ℕ} {v : ScalarRead} → WrittenIs s at kind c mid after v → ScalarIs s at before after v
+      → {after : List ℕ} {v : ScalarRead} → WrittenIs s at kind c mid after v → ScalarIs s at before after (Ok v)
   as_written c kind x e b m n {after} {v} w =
       let (t, i, f, j) = bare-inv (simple_at s at) x c kind (sym e ∙ k.is) b in
       let z : scalar_text t.scalar ≡ slice at c.at.0 s = rw i at k.spelt f in
@@ -163,14 +166,14 @@ module _ {s : List ℕ} {at : ℕ} {before mid : List ℕ} {r : Result Piece Ref
       rw w.is (record { is = (t, i, j, sym l, w.wrote ∙ sym z, m, n, omega arith); kept = w.kept ∙ k.kept })
 
   pub scalar-unquoted : {x : Piece} {c : Cursor} {after : List ℕ} {v : ScalarRead} → r ≡ Ok x → x ≡ Piece.Unquoted c → WrittenIs s at 5 c mid after v
-      → ScalarIs s at before after v
+      → ScalarIs s at before after (Ok v)
   scalar-unquoted {x} {c} i j w =
       let e : r ≡ Ok (Piece.Unquoted c) = i ∙ ap Ok j in
       let m : Moved (length s) at (Ok (Piece.Unquoted c)) = rw e at k.moved in
       as_written c 5 (Piece.Unquoted c) e (refl, refl) m.0 m.1 w
 
   pub scalar-plain : {x : Piece} {kind : ℕ} {c : Cursor} {after : List ℕ} {v : ScalarRead} → r ≡ Ok x → x ≡ Piece.Plain kind c → WrittenIs s at kind c mid after v
-      → ScalarIs s at before after v
+      → ScalarIs s at before after (Ok v)
   scalar-plain {x} {kind} {c} i j w =
       let e : r ≡ Ok (Piece.Plain kind c) = i ∙ ap Ok j in
       let m : Moved (length s) at (Ok (Piece.Plain kind c)) = rw e at k.moved in

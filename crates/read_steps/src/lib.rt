@@ -9,27 +9,30 @@ ghost use Rattle.read_steps.specs.Steps.{FinishFieldAsked, FinishFieldIs, Finish
 
 use codes::bytes;
 use doc_items::Item;
-use read_scalars::ScalarRead;
 use read_values::Run;
-use read_values::pieces::{Listed, PieceItem, PieceRead, ValueStep, Valued};
-use text_chars::{Cursor, DocAt, TextAt, TextLen};
+use read_values::pieces::{Listed, PieceItem, ValueStep, Valued};
+use text_chars::{Cursor, DocAt, Refusal, TextAt, TextLen};
 
 /// A simple piece, its text at the start of the text part.
-pub fn scalar_piece(s: &[u8], c: Cursor, w: TextAt, items: usize, text: &mut [u8]) -> PieceRead
+pub fn scalar_piece(
+    s: &[u8],
+    c: Cursor,
+    w: TextAt,
+    items: usize,
+    text: &mut [u8],
+) -> Result<Option<PieceItem>, Refusal>
     requires { ScalarPieceAsked s.now c.at.0 items text.old }
     ensures { ScalarPieceIs s.now c.at.0 w.0 items text.old text.new result }
 {
-    match read_scalars::scalar(s, c, text) {
-        ScalarRead::Refused { number, place } => PieceRead::Refused { number, place },
-        ScalarRead::Done { kind, next, size } => PieceRead::Done(PieceItem {
-            next,
-            items: items + 1,
-            kind: kind as usize,
-            text: w,
-            size,
-            number: 0,
-        }),
-    }
+    let read = read_scalars::scalar(s, c, text)?;
+    Ok(Some(PieceItem {
+        next: read.next,
+        items: items + 1,
+        kind: read.kind as usize,
+        text: w,
+        size: read.size,
+        number: 0,
+    }))
 }
 
 // Writes the whitespace before a piece to the start of the text part, and the piece's item to the start of the table.
@@ -48,20 +51,15 @@ fn put_piece(
         table.new text.new }
 {
     let gap = text_bytes::copy(s, from, place, text);
-    let n = f.items;
-    let kind = f.kind;
-    let at = f.text;
-    let size = f.size;
-    let number = f.number;
     let item = Item {
-        kind: doc_items::PIECE + kind,
-        size: n - items,
+        kind: doc_items::PIECE + f.kind,
+        size: f.items - items,
         key: used,
         keylen: TextLen(gap),
-        text: at,
-        textlen: size,
+        text: f.text,
+        textlen: f.size,
         place,
-        number,
+        number: f.number,
     };
     doc_items::put_item(table, 0, item);
 }
@@ -74,22 +72,19 @@ pub fn finish_piece(
     used: TextAt,
     run: Run,
     items: usize,
-    r: PieceRead,
+    r: Result<Option<PieceItem>, Refusal>,
     table: &mut [u16],
     text: &mut [u8],
-) -> ValueStep
+) -> Result<Option<ValueStep>, Refusal>
     requires { FinishPieceAsked s.now place.0 from.0 used.0 run items r table.old text.old }
     ensures { FinishPieceIs s.now place.0 from.0 used.0 run items r table.old text.old
         table.new text.new result }
 {
-    match r {
-        PieceRead::End => ValueStep::End,
-        PieceRead::Refused { number, place: bad } => ValueStep::Refused { number, place: bad },
-        PieceRead::Done(found) => {
-            put_piece(s, place, from, used, items, found, table, text);
-            read_values::pieces::add_piece(run, place, found)
-        }
-    }
+    let Some(found) = r? else {
+        return Ok(None);
+    };
+    put_piece(s, place, from, used, items, found, table, text);
+    Ok(Some(read_values::pieces::add_piece(run, place, found)))
 }
 
 /// What a value makes of a field: the items of its key's elements are written in front of the value's, and what parts it from the next is
@@ -101,55 +96,49 @@ pub fn finish_field(
     items: usize,
     count: usize,
     marks: &[usize],
-    v: Valued,
+    v: Result<Valued, Refusal>,
     table: &mut [u16],
-) -> Listed
+) -> Result<Listed, Refusal>
     requires { FinishFieldAsked s.now place.0 items count marks.now v table.old }
     ensures { FinishFieldIs s.now place.0 closing items count marks.now v table.old
         table.new result }
 {
-    match v {
-        Valued::Refused { number, place: bad } => Listed::Refused { number, place: bad },
-        Valued::Done {
-            next,
-            items: n,
-            kind,
-            text,
-            size,
-        } => {
-            let base = TextAt(2 * place.0);
-            read_values::fields::put_fields(table, marks, count, n - items, base, kind, text, size);
-            read_values::pieces::after_member(s, next, n, closing)
-        }
-    }
+    let v = v?;
+    read_values::fields::put_fields(
+        table,
+        marks,
+        count,
+        v.items - items,
+        TextAt(2 * place.0),
+        v.kind,
+        v.text,
+        v.size,
+    );
+    read_values::pieces::after_member(s, v.next, v.items, closing)
 }
 
 /// What a value makes of an element: its item is written in front of the value's, and what parts it from the next is passed.
-pub fn finish_element(s: &[u8], place: DocAt, items: usize, v: Valued, table: &mut [u16]) -> Listed
+pub fn finish_element(
+    s: &[u8],
+    place: DocAt,
+    items: usize,
+    v: Result<Valued, Refusal>,
+    table: &mut [u16],
+) -> Result<Listed, Refusal>
     requires { FinishElementAsked s.now place.0 items v table.old }
     ensures { FinishElementIs s.now place.0 items v table.old table.new result }
 {
-    match v {
-        Valued::Refused { number, place: bad } => Listed::Refused { number, place: bad },
-        Valued::Done {
-            next,
-            items: n,
-            kind,
-            text,
-            size,
-        } => {
-            let item = Item {
-                kind,
-                size: n - items,
-                key: TextAt(0),
-                keylen: TextLen(0),
-                text,
-                textlen: size,
-                place,
-                number: 0,
-            };
-            doc_items::put_item(table, 0, item);
-            read_values::pieces::after_member(s, next, n, bytes::CLOSE_BRACKET)
-        }
-    }
+    let v = v?;
+    let item = Item {
+        kind: v.kind,
+        size: v.items - items,
+        key: TextAt(0),
+        keylen: TextLen(0),
+        text: v.text,
+        textlen: v.size,
+        place,
+        number: 0,
+    };
+    doc_items::put_item(table, 0, item);
+    read_values::pieces::after_member(s, v.next, v.items, bytes::CLOSE_BRACKET)
 }

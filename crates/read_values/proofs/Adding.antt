@@ -219,8 +219,8 @@ module _ (run : Run) (k : ℕ) (place : DocAt) where
           }
 
       pub add-odd : run.odd ≡ true
-          → AddIs run k place.0 (record { count = run.count + 1; kind = run.kind; subs = run.subs; odd = true; place = run.place })
-      add-odd z = literally true run.place (λ n c i e. rw z)
+          → AddIs run k place.0 (record { count = run.count + 1; kind = run.kind; subs = run.subs; odd = run.odd; place = run.place })
+      add-odd z = literally run.odd run.place (λ n c i e. rw z)
 
       pub add-literal : (a b : ℕ) → run.odd ≡ false → GroupIs k a → GroupIs run.kind b
           → AddIs run k place.0 (record { count = run.count + 1; kind = run.kind; subs = run.subs; odd = not (eqb a b); place = place })

@@ -51,12 +51,7 @@ pub fn add(run: Run, kind: usize, place: DocAt) -> Run
     requires { run.count ≤ piece_room }
     ensures { AddIs run kind place.0 result }
 {
-    let count = run.count;
-    let first = run.kind;
-    let subs = run.subs;
-    let odd = run.odd;
-    let other = run.place;
-    if count == 0 {
+    if run.count == 0 {
         return Run {
             count: 1,
             kind,
@@ -65,31 +60,24 @@ pub fn add(run: Run, kind: usize, place: DocAt) -> Run
             place,
         };
     }
+    let longer = Run {
+        count: run.count + 1,
+        ..run
+    };
     if REQUIRED <= kind {
         return Run {
-            count: count + 1,
-            kind: first,
             subs: true,
-            odd,
-            place: other,
+            ..longer
         };
     }
-    if odd {
-        return Run {
-            count: count + 1,
-            kind: first,
-            subs,
-            odd: true,
-            place: other,
-        };
+    if run.odd {
+        return longer;
     }
-    let same = group(kind) == group(first);
+    let same = group(kind) == group(run.kind);
     Run {
-        count: count + 1,
-        kind: first,
-        subs,
         odd: !same,
         place,
+        ..longer
     }
 }
 
@@ -97,9 +85,8 @@ pub fn add(run: Run, kind: usize, place: DocAt) -> Run
 pub fn judge(run: Run) -> Outcome
     ensures { JudgeIs run result }
 {
-    let count = run.count;
     let kind = run.kind;
-    if count == 0 {
+    if run.count == 0 {
         return Outcome::Nothing;
     }
     if run.subs {
@@ -109,8 +96,7 @@ pub fn judge(run: Run) -> Outcome
         };
     }
     if run.odd {
-        let place = run.place;
-        return Outcome::Mixed { place };
+        return Outcome::Mixed { place: run.place };
     }
     if STRING < kind {
         return Outcome::Value {
@@ -118,7 +104,7 @@ pub fn judge(run: Run) -> Outcome
             simple: false,
         };
     }
-    if count == 1 {
+    if run.count == 1 {
         return Outcome::Value { kind, simple: true };
     }
     Outcome::Value {

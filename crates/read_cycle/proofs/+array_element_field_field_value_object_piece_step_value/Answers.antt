@@ -1,4 +1,5 @@
 use borrow.Author.Rules.{rules}
+use Rattle.std.proofs.lemmas.Result.{err_from_is_err_and}
 use Rattle.read_cycle.proofs.Containers.{container-less}
 use Rattle.read_cycle.proofs.Objects.{objects, field_is}
 use Rattle.read_cycle.proofs.FieldValueLaws.{a-keyed, keyed-named}
@@ -19,14 +20,14 @@ array-returns-in-Close t c = search arrays
 pub array-returns-in-End : goal.array-returns-in-End
 array-returns-in-End t c = search arrays
 
-pub array-returns-in-Refused : goal.array-returns-in-Refused
-array-returns-in-Refused t c = search arrays
+pub array-returns-in_err-read-in-Member : goal.array-returns-in_err-read-in-Member
+array-returns-in_err-read-in-Member t c = let p = err_from_is_err_and c.from_residual.result c.from_residual.ensures.1 in rw (p.1, p.2) (search (arrays, c.in_err-read-in-Member.was))
 
 pub array-loop-next-smaller : goal.array-loop-next-smaller
-array-loop-next-smaller t c = search arrays
+array-loop-next-smaller t c = search (arrays, c.in_ok-read-in-Member.was)
 
 pub array-loop-next-preserved : goal.array-loop-next-preserved
-array-loop-next-preserved t c = search arrays
+array-loop-next-preserved t c = search (arrays, c.in_ok-read-in-Member.was)
 
 pub element-returns-then-items-eq-MAX_ITEMS : goal.element-returns-then-items-eq-MAX_ITEMS
 element-returns-then-items-eq-MAX_ITEMS t c = search an-element
@@ -38,13 +39,13 @@ pub element-returns : goal.element-returns
 element-returns t c = search an-element
 
 pub field-field_value-requires : goal.field-field_value-requires
-field-field_value-requires t c = (search field-falls, search (field-asks c.requires c.key.ensures, rules))
+field-field_value-requires t c = (search (field-falls, c.in_ok-read.was), search (field-asks c.requires c.key.ensures c.in_ok-read.was, rules))
 
-pub field-returns-in-Refused : goal.field-returns-in-Refused
-field-returns-in-Refused t c = search a-field
+pub field-returns-in_err-read : goal.field-returns-in_err-read
+field-returns-in_err-read t c = let p = err_from_is_err_and c.from_residual.result c.from_residual.ensures.1 in rw (p.1, p.2) (search (a-field, c.in_err-read.was))
 
-pub field-returns-in-Done : goal.field-returns-in-Done
-field-returns-in-Done t c = search a-field
+pub field-returns : goal.field-returns
+field-returns t c = search (a-field, c.in_ok-read.was)
 
 pub field_value-finish_field-requires : goal.field_value-finish_field-requires
 field_value-finish_field-requires t c = keyed-named c.requires c.value-v.ensures
@@ -61,75 +62,75 @@ object-returns-in-Close t c = search objects
 pub object-returns-in-End : goal.object-returns-in-End
 object-returns-in-End t c = search objects
 
-pub object-returns-in-Refused : goal.object-returns-in-Refused
-object-returns-in-Refused t c = search objects
+pub object-returns-in_err-read-in-Member : goal.object-returns-in_err-read-in-Member
+object-returns-in_err-read-in-Member t c = let p = err_from_is_err_and c.from_residual.result c.from_residual.ensures.1 in rw (p.1, p.2) (search (objects, c.in_err-read-in-Member.was))
 
 pub object-loop-next-smaller : goal.object-loop-next-smaller
 object-loop-next-smaller t c =
-    container-less c.loop-next.invariant c.turn_at.ensures c.in-Member.is (field_is c.field.ensures) c.in-Done.is
+    container-less c.loop-next.invariant c.turn_at.ensures c.in-Member.is (field_is c.field.ensures) c.in_ok-read-in-Member.was
 
 pub object-loop-next-preserved : goal.object-loop-next-preserved
-object-loop-next-preserved t c = search objects
+object-loop-next-preserved t c = search (objects, c.in_ok-read-in-Member.was)
 
 pub piece-scalar_piece-requires : goal.piece-scalar_piece-requires
-piece-scalar_piece-requires t c = search a_Piece
+piece-scalar_piece-requires t c = search (a_Piece, c.in_ok-piece_start.ensures)
 
 pub piece-reference_piece-requires : goal.piece-reference_piece-requires
-piece-reference_piece-requires t c = search a_Piece
+piece-reference_piece-requires t c = search (a_Piece, c.in_ok-piece_start.ensures)
 
 pub piece-overflow_mul-v : goal.piece-overflow_mul-v
-piece-overflow_mul-v t c = search a_Piece
+piece-overflow_mul-v t c = search (a_Piece, c.in_ok-piece_start.ensures)
 
 pub piece-overflow_sub-v : goal.piece-overflow_sub-v
-piece-overflow_sub-v t c = search a_Piece
+piece-overflow_sub-v t c = search (a_Piece, c.in_ok-piece_start.ensures)
 
 pub piece-overflow_sub-left : goal.piece-overflow_sub-left
-piece-overflow_sub-left t c = search a_Piece
+piece-overflow_sub-left t c = search (a_Piece, c.in_ok-piece_start.ensures)
 
 pub piece-slice_bounds-object-count : goal.piece-slice_bounds-object-count
-piece-slice_bounds-object-count t c = search a_Piece
+piece-slice_bounds-object-count t c = search (a_Piece, c.in_ok-piece_start.ensures)
 
 pub piece-slice_bounds-object-start : goal.piece-slice_bounds-object-start
-piece-slice_bounds-object-start t c = search a_Piece
+piece-slice_bounds-object-start t c = search (a_Piece, c.in_ok-piece_start.ensures)
 
 pub piece-object-r-requires : goal.piece-object-r-requires
-piece-object-r-requires t c = search a_Piece
+piece-object-r-requires t c = search (a_Piece, c.in_ok-piece_start.ensures)
 
 pub piece-overflow_mul-v-in-Array : goal.piece-overflow_mul-v-in-Array
-piece-overflow_mul-v-in-Array t c = search a_Piece
+piece-overflow_mul-v-in-Array t c = search (a_Piece, c.in_ok-piece_start.ensures)
 
 pub piece-overflow_sub-v-in-Array : goal.piece-overflow_sub-v-in-Array
-piece-overflow_sub-v-in-Array t c = search a_Piece
+piece-overflow_sub-v-in-Array t c = search (a_Piece, c.in_ok-piece_start.ensures)
 
 pub piece-overflow_sub-left-in-Array : goal.piece-overflow_sub-left-in-Array
-piece-overflow_sub-left-in-Array t c = search a_Piece
+piece-overflow_sub-left-in-Array t c = search (a_Piece, c.in_ok-piece_start.ensures)
 
 pub piece-slice_bounds-array-count : goal.piece-slice_bounds-array-count
-piece-slice_bounds-array-count t c = search a_Piece
+piece-slice_bounds-array-count t c = search (a_Piece, c.in_ok-piece_start.ensures)
 
 pub piece-slice_bounds-array-start : goal.piece-slice_bounds-array-start
-piece-slice_bounds-array-start t c = search a_Piece
+piece-slice_bounds-array-start t c = search (a_Piece, c.in_ok-piece_start.ensures)
 
 pub piece-array-r-requires : goal.piece-array-r-requires
-piece-array-r-requires t c = search a_Piece
+piece-array-r-requires t c = search (a_Piece, c.in_ok-piece_start.ensures)
 
 pub piece-returns-in-Nothing : goal.piece-returns-in-Nothing
-piece-returns-in-Nothing t c = search a_Piece
+piece-returns-in-Nothing t c = search (a_Piece, c.in_ok-piece_start.ensures)
 
-pub piece-returns-in-Refused : goal.piece-returns-in-Refused
-piece-returns-in-Refused t c = search a_Piece
+pub piece-returns-in_err-piece_start : goal.piece-returns-in_err-piece_start
+piece-returns-in_err-piece_start t c = let p = err_from_is_err_and c.from_residual.result c.from_residual.ensures.1 in rw (p.1, p.2) (search (a_Piece, c.in_err-piece_start.ensures))
 
 pub piece-returns-in-Scalar : goal.piece-returns-in-Scalar
-piece-returns-in-Scalar t c = search a_Piece
+piece-returns-in-Scalar t c = search (a_Piece, c.in_ok-piece_start.ensures)
 
 pub piece-returns-in-Reference : goal.piece-returns-in-Reference
-piece-returns-in-Reference t c = search a_Piece
+piece-returns-in-Reference t c = search (a_Piece, c.in_ok-piece_start.ensures)
 
 pub piece-returns-in-Object : goal.piece-returns-in-Object
-piece-returns-in-Object t c = search a_Piece
+piece-returns-in-Object t c = search (a_Piece, c.in_ok-piece_start.ensures)
 
 pub piece-returns-in-Array : goal.piece-returns-in-Array
-piece-returns-in-Array t c = search a_Piece
+piece-returns-in-Array t c = search (a_Piece, c.in_ok-piece_start.ensures)
 
 pub step-finish_piece-requires : goal.step-finish_piece-requires
 step-finish_piece-requires t c = search a-step
@@ -137,20 +138,20 @@ step-finish_piece-requires t c = search a-step
 pub step-returns : goal.step-returns
 step-returns t c = search a-step
 
-pub value-loop-number-init : goal.value-loop-number-init
-value-loop-number-init t c = search a-value
+pub value-loop-more-init : goal.value-loop-more-init
+value-loop-more-init t c = search a-value
 
-pub value-returns-in-End : goal.value-returns-in-End
-value-returns-in-End t c = search a-value
+pub value-returns-in_default : goal.value-returns-in_default
+value-returns-in_default t c = search (a-value, c.in_ok-more.was)
 
-pub value-returns-in-Refused : goal.value-returns-in-Refused
-value-returns-in-Refused t c = search a-value
+pub value-returns-in_err-more : goal.value-returns-in_err-more
+value-returns-in_err-more t c = let p = err_from_is_err_and c.from_residual.result c.from_residual.ensures.1 in rw (p.1, p.2) (search (a-value, c.in_err-more.was))
 
 pub value-after_inline-at-requires : goal.value-after_inline-at-requires
-value-after_inline-at-requires t c = (search short, search (space c.loop-number.invariant c.step.ensures))
+value-after_inline-at-requires t c = (search short, search (space c.loop-more.invariant c.step.ensures, c.in_ok-more.was))
 
-pub value-loop-number-smaller : goal.value-loop-number-smaller
-value-loop-number-smaller t c = search a-value
+pub value-loop-more-smaller : goal.value-loop-more-smaller
+value-loop-more-smaller t c = search (a-value, c.in_ok-more.was)
 
-pub value-loop-number-preserved : goal.value-loop-number-preserved
-value-loop-number-preserved t c = search a-value
+pub value-loop-more-preserved : goal.value-loop-more-preserved
+value-loop-more-preserved t c = search (a-value, c.in_ok-more.was)

@@ -43,8 +43,8 @@ invariant-object-loop-next l = Inv (object_like l.closing) l.s l.start l.left l.
 abbrev pub decreases-object-loop-next : goal.decreases-object-loop-next
 decreases-object-loop-next l = length l.s - l.at.at.0
 
-abbrev pub invariant-value-loop-number : goal.invariant-value-loop-number
-invariant-value-loop-number l = ValueInv l.s l.initial.at.at.0 l.left l.items l.initial.table l.initial.text l.at.at.0 l.from.0 l.n l.used l.run l.table l.text
+abbrev pub invariant-value-loop-more : goal.invariant-value-loop-more
+invariant-value-loop-more l = ValueInv l.s l.initial.at.at.0 l.left l.items l.initial.table l.initial.text l.at.at.0 l.from.0 l.n l.used l.run l.table l.text
 
-abbrev pub decreases-value-loop-number : goal.decreases-value-loop-number
-decreases-value-loop-number l = length l.s - l.at.at.0
+abbrev pub decreases-value-loop-more : goal.decreases-value-loop-more
+decreases-value-loop-more l = length l.s - l.at.at.0

@@ -1,4 +1,5 @@
 -- One law for each answer of the functions that say what begins at a place of a value, the limits kept.
+use Rattle.std.specs.Prelude.{Ok, Err}
 use mathlib.Core.Path.{◌≡◌, refl, ◌∙◌, ap}
 use mathlib.Core.Bool.{Bool, true, false}
 use mathlib.Core.List.{List}
@@ -12,6 +13,7 @@ use Rattle.rules.specs.Refusals.{placed, not_allowed, Read, refused}
 use Rattle.rules.specs.Tree.{Node}
 use Rattle.rules.specs.Reading as rules
 use Rattle.rules.specs.Reading.{start_of, count_item, opened, piece_at, element_at}
+use Rattle.text_chars.specs.Cursor.{refusal}
 use Rattle.text_chars.specs.declared.DocAt.{DocAt}
 use Rattle.text_chars.specs.declared.Cursor.{Cursor}
 use Rattle.read_grammar.specs.Decisions.{start_named, StartIs, NotAllowedIs}
@@ -71,44 +73,44 @@ some_left left d = let m : left ≡ 0 → ⊥ = eqb-false left 0 d in omega arit
 -- ---- what begins
 
 module _ {s : List ℕ} {left items : ℕ} {p : DocAt} {b : Bool} (h : StartsIs s p.0 b) where
-  pub begun-crowded : items ≡ max_items → b ≡ true → PieceStartIs s p.0 left items (Beginning.Refused 8 p)
+  pub begun-crowded : items ≡ max_items → b ≡ true → PieceStartIs s p.0 left items (Err (refusal 8 p))
   begun-crowded z e =
       let t = h.yes e in
       record { is = (t.0, t.1, refl, refl, λ v. counted-out items p.0 (piece_at v s (nesting_of left) t.0 p.0) z) }
 
 module _ {s : List ℕ} {at left items : ℕ} where
-  pub begun-over : {b : Bool} → StartsIs s at b → b ≡ false → PieceStartIs s at left items Beginning.Nothing
+  pub begun-over : {b : Bool} → StartsIs s at b → b ≡ false → PieceStartIs s at left items (Ok Beginning.Nothing)
   begun-over h e = record { is = h.no e }
 
   module _ {r : Start} (h : StartIs s at r) where
-    pub begun-nothing : r ≡ Start.Nothing → PieceStartIs s at left items Beginning.Nothing
+    pub begun-nothing : r ≡ Start.Nothing → PieceStartIs s at left items (Ok Beginning.Nothing)
     begun-nothing e = record { is = named h Start.Nothing e }
 
     module _ (n : items ≡ max_items → ⊥) (l : items ≤ max_items) where
-      pub begun-reference : r ≡ Start.Dollar → PieceStartIs s at left items Beginning.Reference
+      pub begun-reference : r ≡ Start.Dollar → PieceStartIs s at left items (Ok Beginning.Reference)
       begun-reference e =
           let t : grammar.Begins s at Start.Dollar = rw e at h.begins in
           record { is = (named h Start.Dollar e, omega arith, t.0, t.1, t.2) }
 
-      pub begun-scalar : r ≡ Start.Scalar → PieceStartIs s at left items Beginning.Scalar
+      pub begun-scalar : r ≡ Start.Scalar → PieceStartIs s at left items (Ok Beginning.Scalar)
       begun-scalar e =
           let t : grammar.Begins s at Start.Scalar = rw e at h.begins in
           record { is = (named h Start.Scalar e, omega arith, t.0, t.1) }
 
       module _ {c : Cursor} (d : eqb left 0 ≡ false) where
-        pub begun-object : r ≡ Start.Brace c → PieceStartIs s at left items (Beginning.Object c)
+        pub begun-object : r ≡ Start.Brace c → PieceStartIs s at left items (Ok (Beginning.Object c))
         begun-object e =
             let t : grammar.Begins s at (Start.Brace c) = rw e at h.begins in
             record { is = (named h (Start.Brace c) e, omega arith, some_left left d, t.0, t.2) }
 
-        pub begun-array : r ≡ Start.Bracket c → PieceStartIs s at left items (Beginning.Array c)
+        pub begun-array : r ≡ Start.Bracket c → PieceStartIs s at left items (Ok (Beginning.Array c))
         begun-array e =
             let t : grammar.Begins s at (Start.Bracket c) = rw e at h.begins in
             record { is = (named h (Start.Bracket c) e, omega arith, some_left left d, t.0, t.2) }
 
 module _ {s : List ℕ} {left items : ℕ} {p : DocAt} {r : Start} (h : StartIs s p.0 r) (n : items ≡ max_items → ⊥) (l : items ≤ max_items)
     (d : eqb left 0 ≡ true) where
-  pub begun-deep-object : {c : Cursor} → r ≡ Start.Brace c → PieceStartIs s p.0 left items (Beginning.Refused 8 p)
+  pub begun-deep-object : {c : Cursor} → r ≡ Start.Brace c → PieceStartIs s p.0 left items (Err (refusal 8 p))
   begun-deep-object {c} e = record {
     is = (
       rules.brace,
@@ -119,7 +121,7 @@ module _ {s : List ℕ} {left items : ℕ} {p : DocAt} {r : Start} (h : StartIs 
     );
   }
 
-  pub begun-deep-array : {c : Cursor} → r ≡ Start.Bracket c → PieceStartIs s p.0 left items (Beginning.Refused 8 p)
+  pub begun-deep-array : {c : Cursor} → r ≡ Start.Bracket c → PieceStartIs s p.0 left items (Err (refusal 8 p))
   begun-deep-array {c} e = record {
     is = (
       rules.bracket,

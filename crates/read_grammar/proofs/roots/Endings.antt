@@ -1,4 +1,5 @@
 -- The gap behind the root, and the end of the document or a byte that may not stand there.
+use Rattle.std.specs.Prelude.{Ok, Err}
 use mathlib.Core.Path.{◌≡◌, refl, ap, ◌∙◌}
 use mathlib.Core.Bool.{true, false}
 use mathlib.Core.List.{List}
@@ -11,10 +12,10 @@ use Rattle.rules.specs.Refusals.{placed, Read, got, refused, read_then}
 use Rattle.rules.specs.Characters.{after_gap}
 use Rattle.rules.specs.Tree.{Root}
 use Rattle.rules.specs.Reading.{root_at, read_root}
+use Rattle.text_chars.specs.Cursor.{refusal}
 use Rattle.text_scan.specs.Scan.{GapIs}
 use Rattle.text_scan.specs.declared.Gap.{Gap}
 use Rattle.read_grammar.specs.Roots.Contracts.{EndingIs}
-use Rattle.read_grammar.specs.declared.roots.Ending.{Ending}
 
 module _ (s : List ℕ) (nesting items : ℕ) where
   abbrev ended : Root → ℕ → ℕ → Read Root
@@ -35,12 +36,12 @@ module _ (s : List ℕ) (nesting items : ℕ) where
     root-got l = here ∙ rw (le-ltb (after_gap s end) (length s) l, ended) refl
 
 module _ {s : List ℕ} {at : ℕ} {g : Gap} (h : GapIs s at g) where
-  pub ends-trailing : g.next.at.0 < length s → EndingIs s at (Ending.Trailing g.next.at)
+  pub ends-trailing : g.next.at.0 < length s → EndingIs s at (Err (refusal 3 g.next.at))
   ends-trailing l =
       let i : g.next.at.0 ≡ after_gap s at = h.is in
-      record { is = λ nesting items root n e. rw i (root-trailing s nesting items root at n e (omega arith)) }
+      record { is = (refl, λ nesting items root n e. rw i (root-trailing s nesting items root at n e (omega arith))) }
 
-  pub ends-here : length s ≤ g.next.at.0 → EndingIs s at (Ending.End g.next)
+  pub ends-here : length s ≤ g.next.at.0 → EndingIs s at (Ok g.next)
   ends-here l =
       let i : g.next.at.0 ≡ after_gap s at = h.is in
       record { is = λ nesting items root n e. rw i (root-got s nesting items root at n e (omega arith)) }

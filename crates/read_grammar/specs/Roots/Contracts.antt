@@ -1,12 +1,13 @@
 -- What the decisions about the root promise: each gives the rules' root, whatever the nesting and the count of items are.
-use Rattle.std.specs.Prelude.{◌≡◌, ℕ, ◌≤◌, true, List, length}
+use Rattle.std.specs.Prelude.{Result, Ok, Err, ◌≡◌, ℕ, ◌≤◌, true, List, length}
 use Rattle.rules.specs.Refusals.{placed, Read, got, refused, read_then}
 use Rattle.rules.specs.Characters.{after_gap}
 use Rattle.rules.specs.Tree.{Root, fields, elements}
 use Rattle.rules.specs.Reading.{array_at, object_at, root_at, read_root, value_in}
+use Rattle.text_chars.specs.declared.Cursor.{Cursor}
+use Rattle.text_chars.specs.declared.Refusal.{Refusal}
 use Rattle.read_grammar.specs.Decisions.{closes}
 use Rattle.read_grammar.specs.declared.roots.Opening.{Opening}
-use Rattle.read_grammar.specs.declared.roots.Ending.{Ending}
 
 -- ---- the root
 
@@ -34,9 +35,9 @@ abbrev pub Whole : (s : List ℕ) (at : ℕ) (m : Root → ℕ → Read Root) �
 Whole s at m = (nesting items : ℕ) (root : Root) (n : ℕ) → root_at s nesting (after_gap s 0) items ≡ got root at n
     → read_root s nesting items ≡ m root n
 
-abbrev pub Ends : List ℕ → ℕ → Ending → Type 0
-Ends s at (Ending.End c) = Whole s at (λ root n. got root c.at.0 n)
-Ends s at (Ending.Trailing p) = Whole s at (λ root n. refused (placed 3 p.0))
+abbrev pub Ends : List ℕ → ℕ → Result Cursor Refusal → Type 0
+Ends s at (Ok c) = Whole s at (λ root n. got root c.at.0 n)
+Ends s at (Err e) = (e.number ≡ 3) × Whole s at (λ root n. refused (placed 3 e.place.0))
 
-pub record EndingIs (s : List ℕ) (at : ℕ) (r : Ending) : Type 0 where
+pub record EndingIs (s : List ℕ) (at : ℕ) (r : Result Cursor Refusal) : Type 0 where
   pub is : Ends s at r
