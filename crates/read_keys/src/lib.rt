@@ -45,7 +45,6 @@ fn key_path(
     ensures { PathIs s.now c.at.0 allowed text.old marks.old
         text.new marks.new result }
 {
-    let first = c.at;
     let path = text_paths::elements(s, c, true, text, marks)?;
     if path.count == 0 {
         return Err(Refusal {
@@ -53,9 +52,7 @@ fn key_path(
             place: path.next.at,
         });
     }
-    judge_key(
-        s, path.next, first, path.count, path.empty, allowed, marks,
-    )
+    judge_key(s, path.next, c.at, path.count, path.empty, allowed, marks)
 }
 
 /// The key at a place where a field stands, up to the place of its value. `left` is how many nestings more may be opened inside the

@@ -35,8 +35,7 @@ pub fn scalar(s: &[u8], c: Cursor, text: &mut [u8]) -> Result<ScalarRead, Refusa
     requires { PieceAsked s.now c.at.0 text.old }
     ensures { ScalarIs s.now c.at.0 text.old text.new result }
 {
-    let piece = text_pieces::piece_at(s, c, text)?;
-    match piece {
+    match text_pieces::piece_at(s, c, text)? {
         Piece::Quoted { next, used } => Ok(ScalarRead {
             kind: kinds::STRING,
             next,

@@ -82,16 +82,16 @@ fn number_piece(s: &[u8], c: Cursor) -> Result<Piece, Refusal>
     requires { (length s.now ≤ max_document) × (c.at.0 ≤ length s.now) }
     ensures { ScanIs (number_at s.now c.at.0) s.now c.at.0 result }
 {
-    match text_numbers::after_number(s, c) {
-        Some(next) => Ok(Piece::Plain {
-            kind: kinds::NUMBER,
-            next,
-        }),
-        None => Err(Refusal {
+    let Some(next) = text_numbers::after_number(s, c) else {
+        return Err(Refusal {
             number: refusals::BAD_NUMBER_OR_STRING,
             place: c.at,
-        }),
-    }
+        });
+    };
+    Ok(Piece::Plain {
+        kind: kinds::NUMBER,
+        next,
+    })
 }
 
 // A string in quotes.
