@@ -9,7 +9,7 @@ returns-in_err-judge_elements c =
 
 pub returns-in_err-next : goal.returns-in_err-next
 returns-in_err-next c =
-    let p = err_from_is_err_and c.from_residual.result c.from_residual.ensures.1 in
+    let p = err_from_is_err_and c.from_residual-in_err-next.result c.from_residual-in_err-next.ensures.1 in
     rw (p.1, p.2) (search (judgeds, c.in_ok-judge_elements.was, c.in_err-next.was))
 
 pub returns : goal.returns

@@ -7,8 +7,8 @@ returns-in_err-judge_path c =
     let p = err_from_is_err_and c.from_residual.result c.from_residual.ensures.1 in
     rw (p.1, p.2) (search (braces, c.in_err-judge_path.was))
 
-pub returns-then-here-CLOSE_BRACE : goal.returns-then-here-CLOSE_BRACE
-returns-then-here-CLOSE_BRACE c = search (braces, c.in_ok-judge_path.was)
+pub returns-then-here-eq-CLOSE_BRACE : goal.returns-then-here-eq-CLOSE_BRACE
+returns-then-here-eq-CLOSE_BRACE c = search (braces, c.in_ok-judge_path.was)
 
 pub returns : goal.returns
 returns c = search braces
