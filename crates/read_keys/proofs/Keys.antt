@@ -14,7 +14,7 @@ use Rattle.rules.specs.Refusals.{Refusal, placed, Scan, ok, refused}
 use Rattle.rules.specs.Characters.{after_inline}
 use Rattle.rules.specs.Pieces.{Token, starts_simple, simple_at}
 use Rattle.rules.specs.Paths.{starts_include, Segment, segments_from, segments_at, Element, fresh, grown, split_text, split_from, elements_of, judge, keys_of}
-use Rattle.rules.specs.Reading.{inside, value_place, allowed_keys, field_with, field_judged, field_at}
+use Rattle.rules.specs.Reading.{value_place, allowed_keys, field_with, field_judged, field_at}
 use Rattle.theory_text.specs.Choices.{by-test}
 use Rattle.theory_text.specs.Places.{inline-reached}
 use Rattle.theory.specs.Lengths.{IfRead, ends, of-read, then-read, unread, simple-forward, Within, elements-within}

@@ -2,7 +2,7 @@
 use Rattle.std.specs.Prelude.{◌≡◌, ℕ, ◌-◌, ◌≤◌, ◌<◌, Bool, true, false, ◌||◌, List, ◌++◌, eqb, length, drop, Result, Ok, Err}
 use Rattle.std.proofs.Math.Seq.{slice}
 use Rattle.rules.specs.Sizes.{max_document}
-use Rattle.rules.specs.Bytes.{Text, byte_at}
+use Rattle.rules.specs.Bytes.{byte_at}
 use Rattle.rules.specs.Refusals.{number_of, place_of, Scan, ok, refused, and_then}
 use Rattle.rules.specs.Numbers.{is_digit}
 use Rattle.rules.specs.Strings.{quoted_at}
