@@ -9,7 +9,8 @@ ghost use Rattle.rules.specs.Utf8.{continues, lowest, highest, promised, sequenc
 ghost use Rattle.rules.specs.Characters.{of_several, character_at};
 ghost use Rattle.text_chars.specs.Cursor.{ByteIs, WidthIs, PastIs, StepIs, ill_at};
 ghost use Rattle.text_chars.specs.Positions.{EndIs, StartIs, PositionAsked, PositionStepIs, PositionIs};
-ghost use Rattle.text_chars.specs.WellFormed.{NotAsciiIs, BlockIs, WellFormedIs};
+ghost use Rattle.text_chars.specs.Blocks.{BlockPasses};
+ghost use Rattle.text_chars.specs.WellFormed.{BlockIs, WellFormedIs};
 
 use codes::bytes;
 
@@ -213,38 +214,34 @@ fn sequence(s: &[u8], at: DocAt) -> usize
     }
 }
 
-// The bytes of a block: its tests have no way out of the loop, so that the compiler makes them all at once.
+/// Whether a block of bytes stands at a place that all pass a test. The loop has no way out, so that the compiler makes the tests all at
+/// once.
+pub fn block_passes<const N: usize, F: Fn(u8) -> bool>(s: &[u8], at: usize, test: F) -> bool
+    requires { F.IsAlwaysCallable test }
+    ensures { BlockPasses N (F.post test) s.now at result }
+{
+    if s.len() < at {
+        return false;
+    }
+    if s.len() - at < N {
+        return false;
+    }
+    let mut passes = true;
+    for i in 0..N {
+        passes &= test(s[at + i]);
+    }
+    passes
+}
+
 const BLOCK: usize = 64;
 
 const NOT_ASCII: u8 = bytes::NOT_ASCII as u8;
-
-// Counts a byte that is not ASCII: 1 for one, else 0.
-fn not_ascii(b: u8) -> u8
-    ensures { NotAsciiIs b result }
-{
-    if b < NOT_ASCII {
-        return 0;
-    }
-    1
-}
 
 // Whether a block stands at a place, all of ASCII.
 fn ascii_block(s: &[u8], at: usize) -> bool
     ensures { BlockIs s.now at result }
 {
-    if s.len() < at {
-        return false;
-    }
-    if s.len() - at < BLOCK {
-        return false;
-    }
-    let mut count: u8 = 0;
-    let mut i = 0;
-    while i < BLOCK {
-        count += not_ascii(s[at + i]);
-        i += 1;
-    }
-    count == 0
+    block_passes::<BLOCK, _>(s, at, |b| b < NOT_ASCII)
 }
 
 // How many bytes from a place on are well-formed: those of a block of ASCII, or of one sequence; 0 where there is none. Blocks are tried
