@@ -93,32 +93,28 @@ fn byte_of(s: &[u8], at: usize) -> u32
 pub fn byte_at(s: &[u8], at: DocAt) -> u32
     ensures { ByteIs s.now at.0 result }
 {
-    let p = at.0;
-    byte_of(s, p)
+    byte_of(s, at.0)
 }
 
 /// The byte at an offset in records; past the end 256.
 pub fn record_byte(records: &[u8], at: RecAt) -> u32
     ensures { ByteIs records.now at.0 result }
 {
-    let p = at.0;
-    byte_of(records, p)
+    byte_of(records, at.0)
 }
 
 /// The byte at an offset in text; past the end 256.
 pub fn text_byte(text: &[u8], at: TextAt) -> u32
     ensures { ByteIs text.now at.0 result }
 {
-    let p = at.0;
-    byte_of(text, p)
+    byte_of(text, at.0)
 }
 
 /// The byte at an offset in an environment; past the end 256.
 pub fn env_byte(env: &[u8], at: EnvAt) -> u32
     ensures { ByteIs env.now at.0 result }
 {
-    let p = at.0;
-    byte_of(env, p)
+    byte_of(env, at.0)
 }
 
 // ---- well-formed UTF-8: the bytes are those of Unicode's table, and so in hexadecimal
@@ -250,9 +246,8 @@ fn well_formed(s: &[u8], at: DocAt) -> usize
     requires { (length s.now ≤ max_document) × (at.0 ≤ max_document) }
     ensures { WellFormedIs s.now at.0 result }
 {
-    let p = at.0;
-    if p % BLOCK == 0 {
-        if ascii_block(s, p) {
+    if at.0 % BLOCK == 0 {
+        if ascii_block(s, at.0) {
             return BLOCK;
         }
     }
@@ -333,9 +328,7 @@ fn past(s: &[u8], at: DocAt) -> DocAt
     requires { (length s.now ≤ max_document) × (at.0 < length s.now) }
     ensures { PastIs s.now at.0 result.0 }
 {
-    let p = at.0;
-    let lead = byte_at(s, at);
-    let end = p + width(lead);
+    let end = at.0 + width(byte_at(s, at));
     if end < s.len() {
         return DocAt(end);
     }
@@ -386,22 +379,20 @@ impl Position {
         requires { PositionAsked s.now self }
         ensures { PositionStepIs s.now self result }
     {
-        let line = self.line;
-        let column = self.column;
         let Some(Step { ch, next }) = self.cursor.step(s) else {
             return self;
         };
         if ch == bytes::NEWLINE {
             return Position {
                 cursor: next,
-                line: line + 1,
+                line: self.line + 1,
                 column: 1,
             };
         }
         Position {
             cursor: next,
-            line,
-            column: column + 1,
+            column: self.column + 1,
+            ..self
         }
     }
 }
@@ -410,9 +401,8 @@ impl Position {
 fn place_or_end(s: &[u8], place: DocAt) -> usize
     ensures { EndIs s.now place.0 result }
 {
-    let p = place.0;
-    if p < s.len() {
-        return p;
+    if place.0 < s.len() {
+        return place.0;
     }
     s.len()
 }
@@ -424,13 +414,8 @@ pub fn position_of(s: &[u8], place: DocAt) -> Position
 {
     let end = place_or_end(s, place);
     let mut here = Position::start();
-    loop {
-        let c = here.cursor;
-        let at = c.at;
-        if at.0 < end {
-            here = here.step(s);
-        } else {
-            return here;
-        }
+    while here.cursor.at.0 < end {
+        here = here.step(s);
     }
+    here
 }
