@@ -7,19 +7,11 @@ use native.Mathlib.Omega.{arith}
 use mir.Syntax.{w64}
 use mir.Val.{Fits}
 use lib.Dec.{ltb, eqb}
-use lib.ListN.{length, get_or}
+use lib.ListN.{length, get_or, take}
 use borrow.Author.Tests.{ltb-true, ltb-false, eqb-true}
-use Rattle.text_chars.specs.Clash.{clash}
-use Rattle.sheet_runs.specs.Clauses.{block_size, AllPlain, LongerIs, BlockIs, RunIs}
-
-module _ {b : ℕ} where
-  pub longer-none : b < 4 → LongerIs b 0
-  longer-none h = record { small = omega arith; plain = λ e. h }
-
-  pub longer-one : LongerIs b 1
-  longer-one = record { small = omega arith; plain = λ e. absurd (omega arith) }
-
-pub ruleset longer-laws = (longer-none, longer-one)
+use Rattle.std.proofs.Common.{length-take-le, get_or-take}
+use Rattle.text_chars.specs.Blocks.{BlockPasses}
+use Rattle.sheet_runs.specs.Clauses.{block_size, AllPlain, BlockIs, RunIs}
 
 -- one byte more
 plain_more : (s : List ℕ) (p q : ℕ) → AllPlain s p q → get_or s q 0 < 4 → AllPlain s p (q + 1)
@@ -39,35 +31,16 @@ plain_then s p q r h k i l m = go (ltb i q) refl
 
 -- ---- a block
 
--- of so many bytes so many are no records
-pub record BlockLoop (s : List ℕ) (at count i : ℕ) : Type 0 where
-  pub few : count ≤ i
-  pub near : i ≤ block_size
-  pub all : count ≡ 0 → AllPlain s at (at + i)
-
-module _ {s : List ℕ} {at : ℕ} where
-  pub block_none : {end : ℕ} → BlockIs s at end false
-  block_none = record { fits = λ e. clash (cc); all = λ e. clash (cc) }
-
-  pub block_start : BlockLoop s at 0 0
-  block_start = record { few = omega arith; near = omega arith; all = λ e j k l. absurd (omega arith) }
-
-  module _ {count i : ℕ} (I : BlockLoop s at count i) where
-    pub block-turn : {r : ℕ} → i < block_size → LongerIs (get_or s (at + i) 0) r → BlockLoop s at (count + r) (i + 1)
-    block-turn {r} k b =
-        let z : at + i + 1 ≡ at + (i + 1) = omega arith in
-        record {
-          few = omega (arith, I.few, b.small);
-          near = omega arith;
-          all = λ e. subst (AllPlain s at) z (plain_more s at (at + i) (I.all (omega arith)) (b.plain (omega arith)));
-        }
-
-    pub block-end : {end : ℕ} → block_size ≤ end - at → block_size ≤ i → BlockIs s at end (eqb count 0)
-    block-end {end} h k =
-        let z : i ≡ block_size = omega (arith, I.near) in
-        record { fits = λ e. omega arith; all = λ e. subst (λ (n : ℕ). AllPlain s at (at + n)) z (I.all (eqb-true count 0 e)) }
-
-pub ruleset blocks = (block_none, block_start, block-turn, block-end)
+-- the bytes of a block before an end
+pub block-records : {s : List ℕ} {at end : ℕ} {Says : ℕ → Bool → Type 0} {r : Bool} → end ≤ length s
+    → BlockPasses block_size Says (take end s) at r → ((b : ℕ) → Says b true → b < 4) → BlockIs s at end r
+block-records {s} {at} {end} l k low = record {
+  fits = λ e. omega (arith, k.fits e, length-take-le end s l);
+  all = λ e i m n.
+      let j : at + (i - at) ≡ i = omega arith in
+      let b : get_or (take end s) i 0 < 4 = rw j at (low (get_or (take end s) (at + (i - at)) 0) (k.all e (i - at) (omega arith))) in
+      rw (get_or-take end s i 0 (omega (arith, k.fits e, length-take-le end s l))) at b;
+}
 
 -- ---- a run
 

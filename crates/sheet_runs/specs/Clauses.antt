@@ -8,10 +8,6 @@ block_size = 64
 abbrev pub AllPlain : List ℕ → ℕ → ℕ → Type 0
 AllPlain s p q = (i : ℕ) → p ≤ i → i < q → get_or s i 0 < 4
 
-pub record LongerIs (b r : ℕ) : Type 0 where
-  pub small : r ≤ 1
-  pub plain : r ≡ 0 → b < 4
-
 pub record BlockIs (s : List ℕ) (at end : ℕ) (r : Bool) : Type 0 where
   pub fits : r ≡ true → at + block_size ≤ end
   pub all : r ≡ true → AllPlain s at (at + block_size)

@@ -1,3 +1,4 @@
 pub mod Utf8
 pub mod Characters
 pub mod Positions
+pub mod Blocks

@@ -14,7 +14,8 @@ use Rattle.rules.specs.Utf8.{continues, lowest, highest, promised, continued, se
 use Rattle.theory_text.specs.Skips.{skip-on, skip-off}
 use Rattle.theory_text.specs.Places.{sequence-past, sequence-moves}
 use Rattle.text_chars.specs.Clash.{clash}
-use Rattle.text_chars.specs.WellFormed.{block_size, NotAsciiIs, AllAscii, BlockIs, formed_from, WellFormedIs}
+use Rattle.text_chars.specs.Blocks.{BlockPasses}
+use Rattle.text_chars.specs.WellFormed.{block_size, AllAscii, BlockIs, formed_from, WellFormedIs}
 use Rattle.std.specs.Prelude.{Some, None}
 
 -- inside a list the default does not matter
@@ -218,41 +219,12 @@ module _ (s : List ℕ) (at : ℕ) {lead n : ℕ} (e : lead ≡ byte_at s at) (p
 
 -- ---- a block of ASCII
 
--- of so many bytes so many are not ASCII
-pub record BlockLoop (s : List ℕ) (at count i : ℕ) : Type 0 where
-  pub few : count ≤ i
-  pub near : i ≤ block_size
-  pub all : count ≡ 0 → AllAscii s at i
-
-module _ {s : List ℕ} {at : ℕ} where
-  pub block_none : BlockIs s at false
-  block_none = record { fits = λ e. clash (cc); all = λ e. clash (cc) }
-
-  pub block_start : BlockLoop s at 0 0
-  block_start = record { few = omega arith; near = omega arith; all = λ e j k. absurd (omega arith) }
-
-  module _ {count i : ℕ} (I : BlockLoop s at count i) where
-    pub block-turn : {r : ℕ} → block_size ≤ length s - at → i < block_size → NotAsciiIs (get_or s (at + i) 0) r → BlockLoop s at (count + r) (i + 1)
-    block-turn {r} h k b = record {
-      few = omega (arith, I.few, b.small);
-      near = omega arith;
-      all = λ e j l. at-index e j l (ltb j i) refl;
-    }
-      where
-        at-index : count + r ≡ 0 → (j : ℕ) → j < i + 1 → (t : Bool) → ltb j i ≡ t → byte_at s (at + j) < 128
-        at-index e j l true f = I.all (omega arith) j (ltb-true j i f)
-        at-index e j l false f =
-            let last : i ≡ j = omega (arith, ltb-false j i f) in
-            let here : byte_at s (at + i) < 128 = rw (get_d_any s (at + i) 0 256 (omega arith)) at (b.ascii (omega arith)) in
-            rw last at here
-
-    pub block-done : block_size ≤ length s - at → block_size ≤ i → BlockIs s at (eqb count 0)
-    block-done f h = record { fits = λ _. omega arith; all = λ e j k. I.all (eqb-true count 0 e) j (omega arith) }
-
-    pub block-small : {r : ℕ} {b : ℕ} → i < block_size → NotAsciiIs b r → count + r < 256
-    block-small k b = omega (arith, I.few, b.small)
-
-pub ruleset blocks = (arith, block_none, block_start, block-turn, block-done, block-small)
+pub block-ascii : {s : List ℕ} {at : ℕ} {Says : ℕ → Bool → Type 0} {r : Bool} → BlockPasses block_size Says s at r
+    → ((b : ℕ) → Says b true → b < 128) → BlockIs s at r
+block-ascii {s} {at} k low = record {
+  fits = k.fits;
+  all = λ e i l. rw (get_d_any s (at + i) 0 256 (omega (arith, k.fits e))) at (low (get_or s (at + i) 0) (k.all e i l));
+}
 
 -- ---- how far a text is well-formed
 

@@ -5,3 +5,4 @@ pub mod Parts
 pub mod Bounds
 pub mod Clash
 pub mod WellFormed
+pub mod Blocks

@@ -6,10 +6,6 @@ use Rattle.rules.specs.Utf8.{sequence_at}
 abbrev pub block_size : ℕ
 block_size = 64
 
-pub record NotAsciiIs (b r : ℕ) : Type 0 where
-  pub small : r ≤ 1
-  pub ascii : r ≡ 0 → b < 128
-
 -- so many bytes from a place on are ASCII
 abbrev pub AllAscii : (s : List ℕ) (at n : ℕ) → Type 0
 AllAscii s at n = (i : ℕ) → i < n → byte_at s (at + i) < 128

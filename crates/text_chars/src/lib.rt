@@ -9,7 +9,8 @@ ghost use Rattle.rules.specs.Utf8.{continues, lowest, highest, promised, sequenc
 ghost use Rattle.rules.specs.Characters.{of_several, character_at};
 ghost use Rattle.text_chars.specs.Cursor.{ByteIs, WidthIs, PastIs, StepIs, ill_at};
 ghost use Rattle.text_chars.specs.Positions.{EndIs, StartIs, PositionAsked, PositionStepIs, PositionIs};
-ghost use Rattle.text_chars.specs.WellFormed.{NotAsciiIs, BlockIs, WellFormedIs};
+ghost use Rattle.text_chars.specs.Blocks.{BlockPasses};
+ghost use Rattle.text_chars.specs.WellFormed.{BlockIs, WellFormedIs};
 
 use codes::bytes;
 
@@ -92,32 +93,28 @@ fn byte_of(s: &[u8], at: usize) -> u32
 pub fn byte_at(s: &[u8], at: DocAt) -> u32
     ensures { ByteIs s.now at.0 result }
 {
-    let p = at.0;
-    byte_of(s, p)
+    byte_of(s, at.0)
 }
 
 /// The byte at an offset in records; past the end 256.
 pub fn record_byte(records: &[u8], at: RecAt) -> u32
     ensures { ByteIs records.now at.0 result }
 {
-    let p = at.0;
-    byte_of(records, p)
+    byte_of(records, at.0)
 }
 
 /// The byte at an offset in text; past the end 256.
 pub fn text_byte(text: &[u8], at: TextAt) -> u32
     ensures { ByteIs text.now at.0 result }
 {
-    let p = at.0;
-    byte_of(text, p)
+    byte_of(text, at.0)
 }
 
 /// The byte at an offset in an environment; past the end 256.
 pub fn env_byte(env: &[u8], at: EnvAt) -> u32
     ensures { ByteIs env.now at.0 result }
 {
-    let p = at.0;
-    byte_of(env, p)
+    byte_of(env, at.0)
 }
 
 // ---- well-formed UTF-8: the bytes are those of Unicode's table, and so in hexadecimal
@@ -213,38 +210,34 @@ fn sequence(s: &[u8], at: DocAt) -> usize
     }
 }
 
-// The bytes of a block: its tests have no way out of the loop, so that the compiler makes them all at once.
+/// Whether a block of bytes stands at a place that all pass a test. The loop has no way out, so that the compiler makes the tests all at
+/// once.
+pub fn block_passes<const N: usize, F: Fn(u8) -> bool>(s: &[u8], at: usize, test: F) -> bool
+    requires { F.IsAlwaysCallable test }
+    ensures { BlockPasses N (F.post test) s.now at result }
+{
+    if s.len() < at {
+        return false;
+    }
+    if s.len() - at < N {
+        return false;
+    }
+    let mut passes = true;
+    for i in 0..N {
+        passes &= test(s[at + i]);
+    }
+    passes
+}
+
 const BLOCK: usize = 64;
 
 const NOT_ASCII: u8 = bytes::NOT_ASCII as u8;
-
-// Counts a byte that is not ASCII: 1 for one, else 0.
-fn not_ascii(b: u8) -> u8
-    ensures { NotAsciiIs b result }
-{
-    if b < NOT_ASCII {
-        return 0;
-    }
-    1
-}
 
 // Whether a block stands at a place, all of ASCII.
 fn ascii_block(s: &[u8], at: usize) -> bool
     ensures { BlockIs s.now at result }
 {
-    if s.len() < at {
-        return false;
-    }
-    if s.len() - at < BLOCK {
-        return false;
-    }
-    let mut count: u8 = 0;
-    let mut i = 0;
-    while i < BLOCK {
-        count += not_ascii(s[at + i]);
-        i += 1;
-    }
-    count == 0
+    block_passes::<BLOCK, _>(s, at, |b| b < NOT_ASCII)
 }
 
 // How many bytes from a place on are well-formed: those of a block of ASCII, or of one sequence; 0 where there is none. Blocks are tried
@@ -253,9 +246,8 @@ fn well_formed(s: &[u8], at: DocAt) -> usize
     requires { (length s.now ≤ max_document) × (at.0 ≤ max_document) }
     ensures { WellFormedIs s.now at.0 result }
 {
-    let p = at.0;
-    if p % BLOCK == 0 {
-        if ascii_block(s, p) {
+    if at.0 % BLOCK == 0 {
+        if ascii_block(s, at.0) {
             return BLOCK;
         }
     }
@@ -336,9 +328,7 @@ fn past(s: &[u8], at: DocAt) -> DocAt
     requires { (length s.now ≤ max_document) × (at.0 < length s.now) }
     ensures { PastIs s.now at.0 result.0 }
 {
-    let p = at.0;
-    let lead = byte_at(s, at);
-    let end = p + width(lead);
+    let end = at.0 + width(byte_at(s, at));
     if end < s.len() {
         return DocAt(end);
     }
@@ -389,22 +379,20 @@ impl Position {
         requires { PositionAsked s.now self }
         ensures { PositionStepIs s.now self result }
     {
-        let line = self.line;
-        let column = self.column;
         let Some(Step { ch, next }) = self.cursor.step(s) else {
             return self;
         };
         if ch == bytes::NEWLINE {
             return Position {
                 cursor: next,
-                line: line + 1,
+                line: self.line + 1,
                 column: 1,
             };
         }
         Position {
             cursor: next,
-            line,
-            column: column + 1,
+            column: self.column + 1,
+            ..self
         }
     }
 }
@@ -413,9 +401,8 @@ impl Position {
 fn place_or_end(s: &[u8], place: DocAt) -> usize
     ensures { EndIs s.now place.0 result }
 {
-    let p = place.0;
-    if p < s.len() {
-        return p;
+    if place.0 < s.len() {
+        return place.0;
     }
     s.len()
 }
@@ -427,13 +414,8 @@ pub fn position_of(s: &[u8], place: DocAt) -> Position
 {
     let end = place_or_end(s, place);
     let mut here = Position::start();
-    loop {
-        let c = here.cursor;
-        let at = c.at;
-        if at.0 < end {
-            here = here.step(s);
-        } else {
-            return here;
-        }
+    while here.cursor.at.0 < end {
+        here = here.step(s);
     }
+    here
 }

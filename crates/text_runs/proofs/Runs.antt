@@ -1,6 +1,6 @@
 -- Runs: one law for each answer.
 use mathlib.Core.Path.{◌≡◌, refl, sym, ◌∙◌}
-use mathlib.Core.Bool.{Bool, true, false}
+use mathlib.Core.Bool.{Bool, true, false, not}
 use mathlib.Core.List.{List, [], ◌∷◌}
 use Prim.Native.Nat.{ℕ, zero, suc, ◌+◌, ◌-◌, ◌≤◌, ◌<◌, ◌^◌}
 use native.Mathlib.Omega.{arith}
@@ -11,13 +11,14 @@ use lib.ListN.{length, get_or}
 use borrow.Author.Tests.{lt-ltb, le-ltb, eq-eqb, ne_eqb, ltb-true, ltb-false, eqb-true}
 use Rattle.rules.specs.Bytes.{byte_at}
 use Rattle.theory_text.specs.Ascii.{ascii-next}
+use Rattle.text_chars.specs.Blocks.{BlockPasses}
 use Rattle.text_chars.specs.Cursor.{cur, StepIs}
 use Rattle.text_chars.specs.Seen.{seen}
 use Rattle.text_chars.specs.Clash.{clash}
 use Rattle.text_chars.specs.declared.Cursor.{Cursor}
 use Rattle.std.specs.Prelude.{Option, Some, None}
 use Rattle.text_chars.specs.declared.Step.{Step}
-use Rattle.text_runs.specs.Clauses.{block_size, stops, Plain, BreaksIs, Passed, none, on, AllPlain, BlockIs, RunIs, OneSays, OneIs}
+use Rattle.text_runs.specs.Clauses.{block_size, stops, Plain, Passed, none, on, AllPlain, BlockIs, RunIs, OneSays, OneIs}
 
 -- ---- a byte
 
@@ -35,15 +36,19 @@ module _ (least other b : ℕ) where
   stop-other h n = rw (le-ltb b least h, ne_eqb b 34 n, stops)
 
 module _ {least other b : ℕ} where
-  pub breaks-one : BreaksIs least other b 1
-  breaks-one = record { small = omega arith; plain = λ e. absurd (omega arith) }
+  pub plain-not : false ≡ true → Plain least other b
+  plain-not e = clash (cc)
 
-  pub breaks-none : {f : Bool} → b < 128 → f ≡ stops least other b → f ≡ false → BreaksIs least other b 0
-  breaks-none h e k = record { small = omega arith; plain = λ _. record { ascii = h; goes = sym e ∙ k } }
+  pub plain-is : {f : Bool} → b < 128 → f ≡ stops least other b → not f ≡ true → Plain least other b
+  plain-is {f} h e k = record { ascii = h; goes = sym e ∙ go f k }
+    where
+      go : (f : Bool) → not f ≡ true → f ≡ false
+      go true k = clash (cc)
+      go false k = refl
 
 pub ruleset stopping = (stop-low, stop-quote, stop-other)
 
-pub ruleset breaking = (breaks-one, breaks-none)
+pub ruleset plains = (plain-not, plain-is)
 
 -- ---- a block
 
@@ -53,42 +58,14 @@ get_d_any [] at a b h = absurd (omega arith)
 get_d_any (x ∷ s) zero a b h = refl
 get_d_any (x ∷ s) (suc at) a b h = get_d_any s at a b (omega arith)
 
--- of so many bytes so many break a block
-pub record BlockLoop (least other : ℕ) (s : List ℕ) (at count i : ℕ) : Type 0 where
-  pub few : count ≤ i
-  pub near : i ≤ block_size
-  pub all : count ≡ 0 → AllPlain least other s at i
-
-module _ {least other : ℕ} {s : List ℕ} {at : ℕ} where
-  pub block_none : BlockIs least other s at false
-  block_none = record { fits = λ e. clash (cc); all = λ e. clash (cc) }
-
-  pub block_start : BlockLoop least other s at 0 0
-  block_start = record { few = omega arith; near = omega arith; all = λ e j k. absurd (omega arith) }
-
-  module _ {count i : ℕ} (I : BlockLoop least other s at count i) where
-    pub block-turn : {r : ℕ} → block_size ≤ length s - at → i < block_size → BreaksIs least other (get_or s (at + i) 0) r
-        → BlockLoop least other s at (count + r) (i + 1)
-    block-turn {r} h k b = record {
-      few = omega (arith, I.few, b.small);
-      near = omega arith;
-      all = λ e j l. at-index e j l (ltb j i) refl;
-    }
-      where
-        at-index : count + r ≡ 0 → (j : ℕ) → j < i + 1 → (t : Bool) → ltb j i ≡ t → Plain least other (byte_at s (at + j))
-        at-index e j l true f = I.all (omega arith) j (ltb-true j i f)
-        at-index e j l false f =
-            let last : i ≡ j = omega (arith, ltb-false j i f) in
-            let here : Plain least other (byte_at s (at + i)) = rw (get_d_any s (at + i) 0 256 (omega arith)) at (b.plain (omega arith)) in
-            rw last at here
-
-    pub block-done : block_size ≤ length s - at → block_size ≤ i → BlockIs least other s at (eqb count 0)
-    block-done f h = record { fits = λ _. omega arith; all = λ e j k. I.all (eqb-true count 0 e) j (omega arith) }
-
-    pub block-small : {r : ℕ} {b : ℕ} → i < block_size → BreaksIs least other b r → count + r < 256
-    block-small k b = omega (arith, I.few, b.small)
-
-pub ruleset blocks = (arith, block_none, block_start, block-turn, block-done, block-small)
+pub block-plain : {least other : ℕ} {s : List ℕ} {at : ℕ} {Says : ℕ → Bool → Type 0} {r : Bool} → BlockPasses block_size Says s at r
+    → ((b : ℕ) → Says b true → Plain least other b) → BlockIs least other s at r
+block-plain {least} {other} {s} {at} k plain = record {
+  fits = k.fits;
+  all = λ e i l.
+      let here : Plain least other (get_or s (at + i) 0) = plain (get_or s (at + i) 0) (k.all e i l) in
+      rw (get_d_any s (at + i) 0 256 (omega (arith, k.fits e))) at here;
+}
 
 -- ---- characters passed
 

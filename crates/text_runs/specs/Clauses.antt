@@ -20,10 +20,6 @@ pub record Plain (least other b : ℕ) : Type 0 where
   pub ascii : b < 128
   pub goes : stops least other b ≡ false
 
-pub record BreaksIs (least other b r : ℕ) : Type 0 where
-  pub small : r ≤ 1
-  pub plain : r ≡ 0 → Plain least other b
-
 -- character by character from a place to another, none of them of a byte that ends a run
 pub data Passed (least other : ℕ) (s : List ℕ) (at : ℕ) : ℕ → Type 0 where
   none : Passed least other s at at

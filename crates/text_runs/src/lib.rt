@@ -4,14 +4,14 @@
 // Computes: Strings (body_from, quotes_run)
 #![tactic(auto)]
 
-ghost use Rattle.std.specs.Prelude.{◌≡◌, ◌≤◌, length};
+ghost use Rattle.std.specs.Prelude.{◌≡◌, ◌≤◌, true, length};
 ghost use Rattle.rules.specs.Sizes.{max_document};
-ghost use Rattle.text_runs.specs.Clauses.{stops, BreaksIs, BlockIs, RunIs, OneIs, PlainIs, RawRunIs};
+ghost use Rattle.text_runs.specs.Clauses.{stops, Plain, BlockIs, RunIs, OneIs, PlainIs, RawRunIs};
 
 use codes::bytes;
-use text_chars::{Cursor, DocAt};
+use text_chars::{Cursor, DocAt, block_passes};
 
-// The bytes of a block: its tests have no way out of the loop, so that the compiler makes them all at once.
+// The bytes of a block.
 const BLOCK: usize = 64;
 
 const QUOTE: u8 = bytes::QUOTE as u8;
@@ -35,36 +35,21 @@ fn stops_run(b: u8, least: u8, other: u8) -> bool
     b == other
 }
 
-// Counts a byte that a block may not have: 1 for one that ends a run or is not ASCII, else 0.
-fn breaks(b: u8, least: u8, other: u8) -> u8
-    ensures { BreaksIs least other b result }
+// A byte that a block may have: one of ASCII that ends no run.
+fn is_plain(b: u8, least: u8, other: u8) -> bool
+    ensures { result ≡ true → Plain least other b }
 {
     if NOT_ASCII <= b {
-        return 1;
+        return false;
     }
-    if stops_run(b, least, other) {
-        return 1;
-    }
-    0
+    !stops_run(b, least, other)
 }
 
 // Whether a block stands at a place, all of ASCII that a run goes over.
 fn plain_block(s: &[u8], at: usize, least: u8, other: u8) -> bool
     ensures { BlockIs least other s.now at result }
 {
-    if s.len() < at {
-        return false;
-    }
-    if s.len() - at < BLOCK {
-        return false;
-    }
-    let mut count: u8 = 0;
-    let mut i = 0;
-    while i < BLOCK {
-        count += breaks(s[at + i], least, other);
-        i += 1;
-    }
-    count == 0
+    block_passes::<BLOCK, _>(s, at, |b| is_plain(b, least, other))
 }
 
 // The place after the blocks that a run goes over.

@@ -29,10 +29,6 @@ pub record LineByte (b : ℕ) : Type 0 where
   pub ascii : b < 128
   pub other : b ≡ 10 → ⊥
 
-pub record BreaksIs (b r : ℕ) : Type 0 where
-  pub small : r ≤ 1
-  pub goes : r ≡ 0 → LineByte b
-
 -- so many bytes from a place on are of a comment
 abbrev pub AllLine : (s : List ℕ) (at n : ℕ) → Type 0
 AllLine s at n = (i : ℕ) → i < n → LineByte (byte_at s (at + i))

@@ -2,14 +2,14 @@
 // Computes: Characters
 #![tactic(auto)]
 
-ghost use Rattle.std.specs.Prelude.{◌≡◌, ◌≤◌, ◌<◌, length};
+ghost use Rattle.std.specs.Prelude.{◌≡◌, ◌≤◌, ◌<◌, true, length};
 ghost use Rattle.rules.specs.Sizes.{max_document};
 ghost use Rattle.rules.specs.Characters.{is_wide_space, is_space, is_inline, starts_comment, after_inline, line_end};
-ghost use Rattle.text_scan.specs.Scan.{SeenIs, EndIs, BreaksIs, BlockIs, BlanksIs, PassedIs, GapIs};
+ghost use Rattle.text_scan.specs.Scan.{SeenIs, EndIs, LineByte, BlockIs, BlanksIs, PassedIs, GapIs};
 ghost use Rattle.text_scan.specs.Walks.{Going};
 
 use codes::{bytes, spaces};
-use text_chars::{Cursor, DocAt, Step};
+use text_chars::{Cursor, DocAt, Step, block_passes};
 
 /// The character at a place, `bytes::NO_CHARACTER` at the end, and the place after it, which at the end is the end.
 pub fn look(s: &[u8], c: Cursor) -> Step
@@ -122,43 +122,28 @@ pub fn starts_comment(s: &[u8], c: Cursor) -> bool
     false
 }
 
-// The bytes of a block of a comment: its tests have no way out of the loop, so that the compiler makes them all at once.
+// The bytes of a block of a comment.
 const BLOCK: usize = 32;
 
 const NEWLINE: u8 = bytes::NEWLINE as u8;
 
 const NOT_ASCII: u8 = bytes::NOT_ASCII as u8;
 
-// Counts a byte that a run of a comment stops at: 1 for a newline and for one that is not ASCII, else 0.
-fn breaks(b: u8) -> u8
-    ensures { BreaksIs b result }
+// A byte that a run of a comment goes over: one of ASCII, and no newline.
+fn is_plain(b: u8) -> bool
+    ensures { result ≡ true → LineByte b }
 {
     if b == NEWLINE {
-        return 1;
+        return false;
     }
-    if b < NOT_ASCII {
-        return 0;
-    }
-    1
+    b < NOT_ASCII
 }
 
 // Whether a block stands at a place, all of it ASCII and no newline.
 fn line_block(s: &[u8], at: usize) -> bool
     ensures { BlockIs s.now at result }
 {
-    if s.len() < at {
-        return false;
-    }
-    if s.len() - at < BLOCK {
-        return false;
-    }
-    let mut count: u8 = 0;
-    let mut i = 0;
-    while i < BLOCK {
-        count += breaks(s[at + i]);
-        i += 1;
-    }
-    count == 0
+    block_passes::<BLOCK, _>(s, at, is_plain)
 }
 
 // The place after the blocks of a comment.
@@ -180,7 +165,7 @@ fn line_run(s: &[u8], c: Cursor) -> Cursor
 {
     let mut p = line_blocks(s, c).at.0;
     while p < s.len() {
-        if breaks(s[p]) == 0 {
+        if is_plain(s[p]) {
             p += 1;
         } else {
             return Cursor { at: DocAt(p) };

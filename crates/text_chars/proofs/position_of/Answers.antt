@@ -13,5 +13,5 @@ loop-here-smaller c = search walks
 pub loop-here-preserved : goal.loop-here-preserved
 loop-here-preserved c = search walks
 
-pub returns-else-at-end : goal.returns-else-at-end
-returns-else-at-end c = search walks
+pub returns : goal.returns
+returns c = search walks

@@ -1,20 +1,6 @@
-use Rattle.text_runs.proofs.Runs.{blocks}
+use Rattle.std.proofs.Common.{rules, arith}
+use Rattle.text_runs.proofs.Runs.{block-plain}
 use Rattle.text_runs.proofs.plain_block.Goals as goal
 
-pub returns-then-s-at : goal.returns-then-s-at
-returns-then-s-at c = search blocks
-
-pub returns-then-s-at-lt-BLOCK : goal.returns-then-s-at-lt-BLOCK
-returns-then-s-at-lt-BLOCK c = search blocks
-
-pub loop-i-init : goal.loop-i-init
-loop-i-init c = search blocks
-
-pub overflow_add-count : goal.overflow_add-count
-overflow_add-count c = search blocks
-
-pub loop-i-preserved : goal.loop-i-preserved
-loop-i-preserved c = search blocks
-
 pub returns : goal.returns
-returns c = search blocks
+returns c = block-plain c.block_passes.ensures (λ b e. search (rules, arith))
