@@ -22,11 +22,8 @@ pub struct Used {
 fn clear_from(part: &mut [u8], used: usize)
     ensures { ClearedIs used part.old part.new }
 {
-    let n = part.len();
-    let mut i = used;
-    while i < n {
+    for i in used..part.len() {
         part[i] = 0;
-        i += 1;
     }
 }
 

@@ -25,10 +25,8 @@ fn bound_keys(table: &mut [u16], items: usize)
     requires { (items < capacity) × (table_room ≤ length table.old) }
     ensures { Bounded (items + 1) table.old table.new }
 {
-    let mut i = 1;
-    while i <= items {
+    for i in 1..items + 1 {
         bound_key(table, i);
-        i += 1;
     }
 }
 

@@ -1,4 +1,3 @@
 pub mod Sames
 pub mod Encodes
-pub mod Copies
 pub mod Texts

@@ -14,23 +14,11 @@ ghost use Rattle.text_bytes.specs.Parts.{job_texts, near_texts, SizeIs};
 use codes::bytes;
 use text_chars::{DocAt, TextAt, TextLen};
 
-/// Whether two texts are the same: by their lengths first, then byte by byte.
+/// Whether two texts are the same bytes.
 pub fn same_bytes(a: &[u8], b: &[u8]) -> bool
     ensures { result ≡ same a.now b.now }
 {
-    if a.len() == b.len() {
-        let mut i = 0;
-        while i < b.len() {
-            if a[i] == b[i] {
-                i += 1;
-            } else {
-                return false;
-            }
-        }
-        true
-    } else {
-        false
-    }
+    a == b
 }
 
 // The first character that UTF-8 writes in four bytes.
@@ -68,14 +56,9 @@ pub fn copy(s: &[u8], from: DocAt, to: DocAt, out: &mut [u8]) -> usize
     requires { (from.0 ≤ to.0) × (to.0 ≤ length s.now) × (to.0 - from.0 ≤ length out.old) }
     ensures { WriteIs (slice from.0 to.0 s.now) out.old out.new result }
 {
-    let start = from.0;
-    let n = to.0 - start;
-    let mut i = 0;
-    while i < n {
-        out[i] = s[start + i];
-        i += 1;
-    }
-    n
+    let part = &s[from.0..to.0];
+    out[..part.len()].copy_from_slice(part);
+    part.len()
 }
 
 // How long the text is that the text part has at a place: as long as is asked for, or up to its end.

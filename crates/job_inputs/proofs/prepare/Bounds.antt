@@ -36,16 +36,16 @@ pub bounds-start : {items : ℕ} {T : List ℕ} → BoundInv items T T 1
 bounds-start = record { done = bound-none; upto = omega arith }
 
 module _ {items i : ℕ} {T₀ T : List ℕ} (I : BoundInv items T₀ T i) where
-  pub bounds-again : {T' : List ℕ} → i ≤ items → BoundIs i T T' → BoundInv items T₀ T' (i + 1)
+  pub bounds-again : {T' : List ℕ} → i < items + 1 → BoundIs i T T' → BoundInv items T₀ T' (i + 1)
   bounds-again l K = record { done = bound-more I.done K; upto = omega arith }
 
-  pub bounds-item : items < capacity → i ≤ items → i < capacity
+  pub bounds-item : items < capacity → i < items + 1 → i < capacity
   bounds-item few l = omega arith
 
   pub bounds-room : table_room ≤ length T₀ → table_room ≤ length T
   bounds-room l = omega (arith, I.done.len)
 
-  pub bounds-done : items < i → Bounded (items + 1) T₀ T
+  pub bounds-done : items + 1 ≤ i → Bounded (items + 1) T₀ T
   bounds-done l = let e : i ≡ items + 1 = omega (arith, I.upto) in rw e at I.done
 
 pub ruleset bounds_of = (bounds-start, bounds-again, bounds-item, bounds-room, bounds-done)

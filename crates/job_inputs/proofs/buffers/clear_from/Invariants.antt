@@ -1,9 +1,5 @@
 use Rattle.job_inputs.proofs.buffers.Ends.{Clearing}
-use Prim.Native.Nat.{◌-◌}
 use Rattle.job_inputs.proofs.buffers.clear_from.Given as goal
 
 abbrev pub invariant-loop-i : goal.invariant-loop-i
 invariant-loop-i l = Clearing l.used l.initial.part l.part l.i
-
-abbrev pub decreases-loop-i : goal.decreases-loop-i
-decreases-loop-i l = l.n - l.i
