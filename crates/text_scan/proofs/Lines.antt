@@ -15,7 +15,7 @@ use Rattle.text_chars.specs.Blocks.{BlockPasses}
 use Rattle.text_chars.specs.Cursor.{cur}
 use Rattle.text_scan.specs.Scan.{block_size, LineByte, AllLine, BlockIs}
 use Rattle.text_scan.specs.Looks.{get_d_any}
-use Rattle.text_scan.specs.Walks.{Going, going_start, going-further, line-byte}
+use Rattle.text_scan.specs.Walks.{Going, going_start, going-further, going_out, line-byte}
 
 -- ---- a block
 
@@ -53,4 +53,4 @@ module _ {s : List ℕ} {at : ℕ} where
 
 pub ruleset runs = (arith, going_start, run-block, run-less, run_fits)
 
-pub ruleset bytes = (arith, going_start, run-byte, going-further)
+pub ruleset bytes = (arith, going_start, run-byte, going-further, going_out)
