@@ -14,7 +14,6 @@ use Rattle.theory_text.specs.Positions.{Walked, walk_start, walk_more, walk-line
 use Rattle.text_chars.specs.Cursor.{cur, step_at, StepMoved, StepIs}
 use Rattle.text_chars.specs.Seen.{at-end}
 use Rattle.text_chars.specs.Positions.{StartIs, PositionAsked, position_past, PositionStepIs, EndIs, PositionIs}
-use Rattle.text_chars.specs.declared.Cursor.{Cursor}
 use Rattle.text_chars.specs.declared.Step.{Step}
 use Rattle.text_chars.specs.declared.Position.{Position}
 

@@ -2,18 +2,17 @@
 use mathlib.Core.Path.{◌≡◌, refl, sym, ◌∙◌, ap}
 use mathlib.Core.Bool.{Bool, true, false, ◌&&◌}
 use mathlib.Core.List.{List, [], ◌∷◌}
-use Prim.Native.Nat.{ℕ, zero, suc, ◌+◌, ◌-◌, ◌≤◌, ◌<◌}
+use Prim.Native.Nat.{ℕ, zero, suc, ◌+◌, ◌≤◌, ◌<◌}
 use native.Mathlib.Omega.{arith}
 use lib.ListN.{length, get_or, get_or-eq_default}
-use lib.Dec.{ltb, leb, eqb}
-use borrow.Author.Tests.{lt-ltb, le-ltb, le-leb, lt-leb, eq-eqb, ne_eqb, ltb-true, ltb-false, eqb-true}
+use lib.Dec.{leb}
+use borrow.Author.Tests.{lt-ltb, le-ltb, le-leb, lt-leb, eq-eqb, ne_eqb}
 use Rattle.rules.specs.Sizes.{max_document}
 use Rattle.rules.specs.Bytes.{byte_at}
 use Rattle.text_chars.specs.Cursor.{ByteIs, doc, ill_at}
 use Rattle.rules.specs.Utf8.{continues, lowest, highest, promised, continued, sequence_at, well_formed_end, ill_formed}
 use Rattle.theory_text.specs.Skips.{skip-on, skip-off}
 use Rattle.theory_text.specs.Places.{sequence-past, sequence-moves}
-use Rattle.text_chars.specs.Clash.{clash}
 use Rattle.text_chars.specs.Blocks.{BlockPasses}
 use Rattle.text_chars.specs.WellFormed.{block_size, AllAscii, BlockIs, formed_from, WellFormedIs}
 use Rattle.std.specs.Prelude.{Some, None}

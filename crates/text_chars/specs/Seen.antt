@@ -5,11 +5,10 @@ use Rattle.std.proofs.Common.{◌∙◌, arith}
 use Rattle.std.proofs.Math.Bool.{true, false}
 use Rattle.std.proofs.Math.Dec.{ltb}
 use borrow.Author.Tests.{lt-ltb, le-ltb, eq-eqb, ne_eqb, ltb-true, ltb-false}
-use Rattle.rules.specs.Bytes.{byte_at, within}
+use Rattle.rules.specs.Bytes.{byte_at}
 use Rattle.rules.specs.Characters.{character_at, next_place}
 use Rattle.theory_text.specs.Ascii.{ascii-byte, ascii-character, ascii-next}
 use Rattle.text_chars.specs.Cursor.{cur, step_at, StepMoved, StepIs}
-use Rattle.text_chars.specs.declared.Cursor.{Cursor}
 use Rattle.text_chars.specs.declared.Step.{Step}
 
 -- the character that a step saw, by its byte, and the place after it

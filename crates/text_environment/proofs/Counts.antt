@@ -17,7 +17,6 @@ use Rattle.text_chars.specs.declared.DocAt.{DocAt}
 use Rattle.std.specs.Prelude.{Some, None, Option as Maybe}
 use Rattle.text_environment.specs.Clauses.{is_some, entries, entry, EntryAt, EntryIs}
 use Rattle.text_chars.specs.Clash.{clash}
-use Rattle.text_chars.specs.declared.EnvAt.{EnvAt}
 use Rattle.text_environment.specs.declared.Parts.{Parts}
 
 -- one entry counts one

@@ -17,7 +17,6 @@ use Rattle.text_chars.specs.Cursor.{ByteIs}
 use Rattle.text_environment.specs.Clauses.{env, NameEnd, NameEnds, TextEnd, TextEnds, EntryIs}
 use Rattle.text_chars.specs.declared.EnvAt.{EnvAt}
 use Rattle.std.specs.Prelude.{Option as Maybe, Some, None}
-use Rattle.text_environment.specs.declared.Parts.{Parts}
 
 -- one byte more before the end of a part
 slice-more : (from to : ℕ) (s : List ℕ) → from ≤ to → to < length s → slice from (suc to) s ≡ slice from to s ++ (byte_at s to ∷ [])

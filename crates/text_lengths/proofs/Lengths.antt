@@ -13,7 +13,7 @@ use Rattle.text_chars.specs.Clash.{clash}
 use Rattle.text_chars.specs.Cursor.{ill_at}
 use Rattle.text_chars.specs.declared.Cursor.{Cursor}
 use Rattle.text_chars.specs.declared.DocAt.{DocAt}
-use Rattle.std.specs.Prelude.{Some, None, Option as Maybe, Result, Ok, Err, is_some}
+use Rattle.std.specs.Prelude.{Some, None, Option as Maybe, Result, Err, is_some}
 use Rattle.text_scan.specs.Scan.{EndIs}
 use Rattle.text_lengths.specs.Decimals.Contracts.{decimal_in, DecimalIs, unit_as, UnitIs}
 use Rattle.text_lengths.specs.declared.decimals.Decimal.{Decimal}

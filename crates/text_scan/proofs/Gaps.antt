@@ -144,7 +144,10 @@ blanks-on {s} {at} {p} b h e =
       inside = omega arith;
     }
 
-pub ruleset blanks = (arith, blanks-start, blanks-on)
+pub blanks-out : {s : List ℕ} {at p : ℕ} → BlanksIs s at (cur p) → length s ≤ p → BlanksIs s at (cur (length s))
+blanks-out {s} {at} {p} b h = let e : p ≡ length s = omega (arith, b.inside) in rw e at b
+
+pub ruleset blanks = (arith, blanks-start, blanks-on, blanks-out)
 
 -- ---- the loop
 

@@ -1,21 +1,18 @@
 -- Runs of a comment: one law for each answer.
-use mathlib.Core.Path.{◌≡◌, refl}
-use mathlib.Core.Bool.{Bool, true, false}
+use mathlib.Core.Path.{◌≡◌}
+use mathlib.Core.Bool.{Bool, true}
 use mathlib.Core.List.{List}
 use Prim.Native.Nat.{ℕ, zero, suc, ◌+◌, ◌-◌, ◌≤◌, ◌<◌, ◌^◌}
 use native.Mathlib.Omega.{arith}
 use mir.Syntax.{w64}
 use mir.Val.{Fits}
-use lib.Dec.{ltb, eqb}
 use lib.ListN.{length, get_or}
-use borrow.Author.Tests.{ltb-true, ltb-false, eqb-true}
-use Rattle.rules.specs.Bytes.{byte_at}
 use Rattle.rules.specs.Characters.{line_end}
 use Rattle.text_chars.specs.Blocks.{BlockPasses}
 use Rattle.text_chars.specs.Cursor.{cur}
 use Rattle.text_scan.specs.Scan.{block_size, LineByte, AllLine, BlockIs}
 use Rattle.text_scan.specs.Looks.{get_d_any}
-use Rattle.text_scan.specs.Walks.{Going, going_start, going-further, line-byte}
+use Rattle.text_scan.specs.Walks.{Going, going_start, going-further, going_out, line-byte}
 
 -- ---- a block
 
@@ -53,4 +50,4 @@ module _ {s : List ℕ} {at : ℕ} where
 
 pub ruleset runs = (arith, going_start, run-block, run-less, run_fits)
 
-pub ruleset bytes = (arith, going_start, run-byte, going-further)
+pub ruleset bytes = (arith, going_start, run-byte, going-further, going_out)

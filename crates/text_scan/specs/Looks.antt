@@ -8,7 +8,7 @@ use Rattle.answers.specs.Theory.Sound.{clash}
 use Rattle.rules.specs.Bytes.{byte_at}
 use Rattle.rules.specs.Characters.{no_character, width_of, next_place, of_several, character_at, is_space}
 use Rattle.theory_text.specs.Choices.{by-test}
-use Rattle.theory_text.specs.Places.{byte_past, character-past, inside}
+use Rattle.theory_text.specs.Places.{byte_past, character-past}
 use Rattle.text_chars.specs.Cursor.{cur, step_at, StepIs}
 use Rattle.text_chars.specs.declared.Cursor.{Cursor}
 use Rattle.text_chars.specs.declared.Step.{Step}

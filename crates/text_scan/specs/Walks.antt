@@ -32,6 +32,10 @@ pub record Going (walk : List ℕ → ℕ → ℕ) (s : List ℕ) (at : ℕ) (p 
 pub going_start : {walk : List ℕ → ℕ → ℕ} {s : List ℕ} {p : Cursor} → p.at.0 ≤ length s → Going walk s p.at.0 p
 going_start h = record { still = refl; forward = omega arith; inside = h }
 
+-- a walk that has come to the end of the text
+pub going_out : {walk : List ℕ → ℕ → ℕ} {s : List ℕ} {at p : ℕ} → Going walk s at (cur p) → length s ≤ p → Going walk s at (cur (length s))
+going_out {walk} {s} {at} {p} g h = let e : p ≡ length s = omega (arith, g.inside) in rw e at g
+
 -- a walk that has come to a place, and from there to another
 pub going-further : {walk : List ℕ → ℕ → ℕ} {s : List ℕ} {at : ℕ} {p q : Cursor} → Going walk s at p → Going walk s p.at.0 q → Going walk s at q
 going-further g h = record { still = g.still ∙ h.still; forward = omega arith; inside = h.inside }

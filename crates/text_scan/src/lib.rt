@@ -163,15 +163,12 @@ fn line_run(s: &[u8], c: Cursor) -> Cursor
     requires { c.at.0 ≤ length s.now }
     ensures { Going line_end s.now c.at.0 result }
 {
-    let mut p = line_blocks(s, c).at.0;
-    while p < s.len() {
-        if is_plain(s[p]) {
-            p += 1;
-        } else {
+    for p in line_blocks(s, c).at.0..s.len() {
+        if !is_plain(s[p]) {
             return Cursor { at: DocAt(p) };
         }
     }
-    Cursor { at: DocAt(p) }
+    Cursor { at: DocAt(s.len()) }
 }
 
 // The newline that ends a comment, or the end of the text.
@@ -207,15 +204,12 @@ fn after_blanks(s: &[u8], c: Cursor) -> Cursor
     requires { c.at.0 ≤ length s.now }
     ensures { BlanksIs s.now c.at.0 result }
 {
-    let mut p = c.at.0;
-    while p < s.len() {
-        if s[p] == BLANK {
-            p += 1;
-        } else {
+    for p in c.at.0..s.len() {
+        if s[p] != BLANK {
             return Cursor { at: DocAt(p) };
         }
     }
-    Cursor { at: DocAt(p) }
+    Cursor { at: DocAt(s.len()) }
 }
 
 // The gap with one character of whitespace and the blanks behind it, or with one comment more; none where neither stands. What most

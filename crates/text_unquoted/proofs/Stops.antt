@@ -19,7 +19,7 @@ use Rattle.text_chars.specs.Cursor.{cur}
 use Rattle.text_scan.specs.Scan.{SeenIs}
 use Rattle.text_chars.specs.declared.Step.{Step}
 use Rattle.text_scan.specs.Looks.{get_d_any, visible, is_byte, not_byte}
-use Rattle.text_scan.specs.Walks.{Going, going_start, unquoted-byte}
+use Rattle.text_scan.specs.Walks.{Going, going_start, going_out, unquoted-byte}
 use Rattle.text_unquoted.specs.Clauses.{Plain, PlainIs}
 
 -- ---- the characters that unquoted text cannot have
@@ -187,7 +187,7 @@ module _ (s : List ℕ) (p : ℕ) (h : p < length s) {f : Bool} (k : PlainIs (ge
   pub run-plain : {at : ℕ} → Going unquoted_end s at (cur p) → Going unquoted_end s at (cur (p + 1))
   run-plain g = unquoted-byte g h plain_byte.ascii goes
 
-pub ruleset runs = (arith, going_start, run-plain)
+pub ruleset runs = (arith, going_start, going_out, run-plain)
 
 -- ---- where unquoted text stops
 

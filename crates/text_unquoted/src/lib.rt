@@ -85,15 +85,12 @@ fn plain_run(s: &[u8], c: Cursor) -> Cursor
     requires { c.at.0 ≤ length s.now }
     ensures { Going unquoted_end s.now c.at.0 result }
 {
-    let mut p = c.at.0;
-    while p < s.len() {
-        if is_plain(s[p]) {
-            p += 1;
-        } else {
+    for p in c.at.0..s.len() {
+        if !is_plain(s[p]) {
             return Cursor { at: DocAt(p) };
         }
     }
-    Cursor { at: DocAt(p) }
+    Cursor { at: DocAt(s.len()) }
 }
 
 /// The place after unquoted text.

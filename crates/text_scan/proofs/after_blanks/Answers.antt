@@ -7,8 +7,8 @@ loop-p-init c = search blanks
 pub loop-p-preserved : goal.loop-p-preserved
 loop-p-preserved c = search blanks
 
-pub returns-else-s-p-eq-BLANK : goal.returns-else-s-p-eq-BLANK
-returns-else-s-p-eq-BLANK c = search blanks
+pub returns-then-s-p-ne-BLANK : goal.returns-then-s-p-ne-BLANK
+returns-then-s-p-ne-BLANK c = search blanks
 
 pub returns : goal.returns
 returns c = search blanks

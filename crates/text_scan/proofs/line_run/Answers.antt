@@ -7,8 +7,8 @@ loop-p-init c = search bytes
 pub loop-p-preserved : goal.loop-p-preserved
 loop-p-preserved c = search bytes
 
-pub returns-else-is_plain : goal.returns-else-is_plain
-returns-else-is_plain c = search bytes
+pub returns-then-not-is_plain : goal.returns-then-not-is_plain
+returns-then-not-is_plain c = search bytes
 
 pub returns : goal.returns
 returns c = search bytes
