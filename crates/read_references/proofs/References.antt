@@ -32,7 +32,6 @@ use Rattle.doc_items.specs.Codes.{path_texts, path_ends}
 use Rattle.read_references.specs.References.{ends_to, OpenedIs, substitute, braced_scan, BraceAsked, Braces, BraceIs, Betweens, BetweenIs, EndsAsked, EndsIs, ReferenceAsked, ReferenceIs}
 use Rattle.read_references.specs.declared.Opened.{Opened}
 use Rattle.read_references.specs.declared.Between.{Between}
-use Rattle.read_references.specs.declared.ReferenceRead.{ReferenceRead}
 use Rattle.read_references.proofs.Openings.{byte_inside}
 use Rattle.read_references.proofs.Held.{texts-length, held-texts, held-last, held_low, held-ends}
 
