@@ -1,4 +1,5 @@
 -- Laws of the job: its inputs are read, then the sheet is held against the document.
+use Rattle.std.specs.Prelude.{Result, Ok, Err}
 use mathlib.Core.Path.{◌≡◌, sym, ◌∙◌, ap, subst}
 use mathlib.Core.Bool.{Bool, true}
 use mathlib.Core.List.{List}
@@ -14,7 +15,7 @@ use Rattle.rules.specs.Jobs.{verdict, check_job}
 use Rattle.theory.specs.Heights.{setting-height}
 use Rattle.theory.specs.JobRefusals.{Bounds, bad, good, bounds, lent-short}
 use Rattle.theory.specs.ReadingEnds.{inputs_end}
-use Rattle.text_chars.specs.declared.DocAt.{DocAt}
+use Rattle.text_chars.specs.declared.Refusal.{Refusal as Refused}
 use Rattle.text_environment.specs.Answers.{accepted-is}
 use Rattle.read_documents.specs.declared.Reading.{Reading}
 use Rattle.read_laws.specs.Listing.{listed-as-read}
@@ -41,40 +42,40 @@ refused-so : (s e trail table text : List ℕ) (number place : ℕ) (x : Refusal
 unfolding check_job verdict
 refused-so s e trail table text number place x h n p = rw (check_job, h, verdict, n, p)
 
-module _ {s e trail table text T B T₁ B₁ : List ℕ} {fit : Bool} {r : Reading} (F : PartsFit trail table text fit)
+module _ {s e trail table text T B T₁ B₁ : List ℕ} {fit : Bool} {r : Result Reading Refused} (F : PartsFit trail table text fit)
     (K : TaskIs fit s e T B T₁ B₁ r) where
-  abbrev case-so : {q : Reading} → r ≡ q → TaskCase fit s e T₁ B₁ q
-  case-so z = subst (λ (q : Reading). TaskCase fit s e T₁ B₁ q) z K.is
+  abbrev case-so : {q : Result Reading Refused} → r ≡ q → TaskCase fit s e T₁ B₁ q
+  case-so z = subst (λ (q : Result Reading Refused). TaskCase fit s e T₁ B₁ q) z K.is
 
-  pub check-refused : {number : ℕ} {place : DocAt} → r ≡ Reading.Refused number place → CheckIs s e trail table text (Verdict.Refused number place)
-  check-refused {number} {place} z =
+  pub check-refused : {d : Refused} → r ≡ Err d → CheckIs s e trail table text (Verdict.Refused d.number d.place)
+  check-refused {d} z =
       let (x, h, n, p) = case-so z in
       record {
-        is = refused-so s e trail table text number place.0 x (ap (λ (b : Bool). inputs b s e) (sym F.is) ∙ h) n p;
-        refusal = λ m q y. let k : number ≡ m = cc (y) in omega (arith, inputs_end fit s e x h, n, k);
+        is = refused-so s e trail table text d.number d.place.0 x (ap (λ (b : Bool). inputs b s e) (sym F.is) ∙ h) n p;
+        refusal = λ m q y. let k : d.number ≡ m = cc (y) in omega (arith, inputs_end fit s e x h, n, k);
       }
 
-  module _ {items count : ℕ} (z : r ≡ Reading.Done items count) where
+  module _ {v : Reading} (z : r ≡ Ok v) where
     abbrev x : Setting
     x = (case-so z).0
 
-    ready : Ready fit s e T₁ B₁ items x
+    ready : Ready fit s e T₁ B₁ v.items x
     ready = (case-so z).1
 
     short : (length trail ≤ max_room) × (length table ≤ max_room) × (length text ≤ max_room)
     short = lent-short s e trail table text (sym F.is ∙ others-true fit s e x ready.read)
 
     pub sheet-asked : (w room : List ℕ) → job_table ≤ length T → job_bytes ≤ length B → length B ≤ most_bytes → Work w → Room room
-        → SheetAsked T₁ B₁ e w room count trail text
+        → SheetAsked T₁ B₁ e w room v.unresolved trail text
     sheet-asked w room t b m k l =
-        let v = ready.variables in
+        let u = ready.variables in
         record {
           lent = record {
             whole = l;
             table = omega (arith, K.kept_table);
             bytes = omega (arith, K.kept-bytes);
             most = omega (arith, K.kept-bytes);
-            environment = (accepted-is e v.0 v.1).0;
+            environment = (accepted-is e u.0 u.1).0;
             work = k;
             few = omega (arith, (case-so z).2, ready.state.document.read.at_most);
             trail-short = short.0;
@@ -91,10 +92,10 @@ module _ {s e trail table text T B T₁ B₁ : List ℕ} {fit : Bool} {r : Readi
       environment = ready.variables.2;
     }
 
-    pub check-is : {v : Verdict} → SheetIs e count trail table text T₁ B₁ v → CheckIs s e trail table text v
+    pub check-is : {w : Verdict} → SheetIs e v.unresolved trail table text T₁ B₁ w → CheckIs s e trail table text w
     unfolding check_job
-    check-is {v} P =
+    check-is {w} P =
         let h : inputs (parts_fit trail table text) s e ≡ valid x = ap (λ (b : Bool). inputs b s e) (sym F.is) ∙ ready.read in
-        record { is = rw (check_job, h) (P.is x _ items known (case-so z).2 ready.state s); refusal = P.refusal }
+        record { is = rw (check_job, h) (P.is x _ v.items known (case-so z).2 ready.state s); refusal = P.refusal }
 
 pub ruleset checks = (check-refused, sheet-asked, check-is)

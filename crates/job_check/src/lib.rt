@@ -11,7 +11,6 @@ use crate::trails::check_sheet;
 use codes::limits;
 use job_inputs::read_task;
 use job_results::Verdict;
-use read_documents::Reading;
 
 // Whether no part of a sheet is over its bytes.
 fn parts_fit(trail: &[u8], table: &[u8], text: &[u8]) -> bool
@@ -45,15 +44,18 @@ pub fn check(
     let mut room = [0u8; limits::RECORDS + limits::TEXT];
     let fit = parts_fit(trail, table, text);
     match read_task(fit, document, environment, &mut numbers, &mut bytes) {
-        Reading::Refused { number, place } => Verdict::Refused { number, place },
-        Reading::Done { items, unresolved } => {
+        Err(e) => Verdict::Refused {
+            number: e.number,
+            place: e.place,
+        },
+        Ok(read) => {
             check_sheet(
                 &mut numbers,
                 &mut bytes,
                 environment,
                 &mut work,
                 &mut room,
-                unresolved,
+                read.unresolved,
                 trail,
                 table,
                 text,

@@ -10,6 +10,7 @@ ghost use Rattle.eval_state.specs.Memories.{job_table, job_bytes};
 ghost use Rattle.job_inputs.specs.Clauses.{TaskIs};
 
 use read_documents::Reading;
+use text_chars::Refusal;
 
 /// Reads a job's inputs, and makes a document that was read ready. The scratch is as long as a job's memory.
 pub fn read_task(
@@ -18,16 +19,12 @@ pub fn read_task(
     environment: &[u8],
     table: &mut [u16],
     bytes: &mut [u8],
-) -> Reading
+) -> Result<Reading, Refusal>
     requires { (job_table ≤ length table.old) × (job_bytes ≤ length bytes.old) }
     ensures { TaskIs others_fit document.now environment.now
         table.old bytes.old table.new bytes.new result }
 {
-    match read_documents::read_inputs(others_fit, document, environment, table, bytes) {
-        Reading::Refused { number, place } => Reading::Refused { number, place },
-        Reading::Done { items, unresolved } => {
-            crate::prepare::prepare(table, bytes, items);
-            Reading::Done { items, unresolved }
-        }
-    }
+    let read = read_documents::read_inputs(others_fit, document, environment, table, bytes)?;
+    crate::prepare::prepare(table, bytes, read.items);
+    Ok(read)
 }

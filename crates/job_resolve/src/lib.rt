@@ -12,7 +12,6 @@ use job_inputs::buffers::{budget_fits, finish, room_of};
 use job_inputs::read_task;
 use job_results::Resolution;
 use job_root::hand_root;
-use read_documents::Reading;
 use text_chars::{RecAt, TextAt};
 
 // Resolves a document that was read into a job's memory: the root is settled, which lays the trail; then its value is evaluated once, and
@@ -78,12 +77,15 @@ pub fn resolve(
     let mut numbers = [0u16; eval_state::TABLE];
     let mut bytes = [0u8; eval_state::BYTES];
     match read_task(fits, document, environment, &mut numbers, &mut bytes) {
-        Reading::Refused { number, place } => {
-            let r = Resolution::Refused { number, place };
+        Err(e) => {
+            let r = Resolution::Refused {
+                number: e.number,
+                place: e.place,
+            };
             finish(trail, table, text, r);
             r
         }
-        Reading::Done { items, unresolved } => {
+        Ok(_) => {
             let most = budget as usize;
             let r = resolution(
                 &mut numbers,

@@ -1,5 +1,5 @@
 -- The job resolve: one law for each return, and what its callees ask.
-use Rattle.std.specs.Prelude.{◌≡◌, Bool, List, ◌++◌, ℕ, ◌≤◌, leb, length, take, drop}
+use Rattle.std.specs.Prelude.{Result as Returned, Ok, Err, ◌≡◌, Bool, List, ◌++◌, ℕ, ◌≤◌, leb, length, take, drop}
 use Rattle.std.proofs.Math.Path.{refl, sym, ap, subst}
 use Rattle.std.proofs.Common.{◌∙◌, append_assoc, arith, length-take-le}
 use Rattle.std.proofs.Math.Seq.{length_front}
@@ -7,7 +7,7 @@ use Rattle.rules.specs.Sizes.{max_room, max_budget}
 use Rattle.rules.specs.Refusals.{Refusal, number_of, place_of}
 use Rattle.rules.specs.Documents.{Setting, Input, valid, refused, inputs}
 use Rattle.rules.specs.Jobs.{Result, Resolved, refused_with, room_of, resolved, located, resolve_job, buffers_of}
-use Rattle.text_chars.specs.declared.DocAt.{DocAt}
+use Rattle.text_chars.specs.declared.Refusal.{Refusal as Refused}
 use Rattle.read_documents.specs.Clauses.{InputRefuses}
 use Rattle.read_documents.specs.declared.Reading.{Reading}
 use Rattle.eval_state.specs.Memories.{job_bytes}
@@ -47,17 +47,17 @@ begins-whole {xs} {y} z h = record { rest = h.rest ++ z; is = ap (λ (l : List �
 
 -- ---- the whole job
 
-module _ (s e : List ℕ) (budget : ℕ) (b x : List ℕ) {fits : Bool} (f : fits ≡ leb budget max_budget) {T B T' B' : List ℕ} {q : Reading}
-    (W : TaskIs fits s e T B T' B' q) {items unresolved : ℕ} (z : q ≡ Reading.Done items unresolved) (l : length B ≡ job_bytes)
+module _ (s e : List ℕ) (budget : ℕ) (b x : List ℕ) {fits : Bool} (f : fits ≡ leb budget max_budget) {T B T' B' : List ℕ} {q : Returned Reading Refused}
+    (W : TaskIs fits s e T B T' B' q) {v : Reading} (z : q ≡ Ok v) (l : length B ≡ job_bytes)
     {i k : ℕ} (o : i ≡ room_of (length b)) (u : k ≡ room_of (length x)) where
-  task : TaskCase fits s e T' B' (Reading.Done items unresolved)
+  task : TaskCase fits s e T' B' (Ok v)
   task = rw z at W.is
 
   pub resolution-asked : ResolutionAsked T' B' e budget (take i b) (take k x)
   resolution-asked = record {
     others = fits;
     document = s;
-    items = items;
+    items = v.items;
     setting = task.0;
     ready = task.1;
     bytes = omega (arith, W.kept-bytes);
@@ -96,14 +96,14 @@ module _ (s e : List ℕ) (budget : ℕ) (b c x : List ℕ) where
         ∙ ap (λ (n : ℕ). buffers_of (length b) (length c) n (located s result)) k);
   }
 
-  module _ {fits : Bool} (f : fits ≡ leb budget max_budget) {T B T' B' : List ℕ} {q : Reading} (W : TaskIs fits s e T B T' B' q) where
-    pub resolve-refused : {number : ℕ} {place : DocAt} {b'' c'' x'' : List ℕ} → q ≡ Reading.Refused number place
-        → FinishedIs (Resolution.Refused number place) b c x b'' c'' x'' → ResolveIs s e budget b c x b'' c'' x'' (Resolution.Refused number place)
+  module _ {fits : Bool} (f : fits ≡ leb budget max_budget) {T B T' B' : List ℕ} {q : Returned Reading Refused} (W : TaskIs fits s e T B T' B' q) where
+    pub resolve-refused : {d : Refused} {b'' c'' x'' : List ℕ} → q ≡ Err d → FinishedIs (Resolution.Refused d.number d.place) b c x b'' c'' x''
+        → ResolveIs s e budget b c x b'' c'' x'' (Resolution.Refused d.number d.place)
     unfolding refused_with resolved
-    resolve-refused {number} {place} z F =
-        let h : InputRefuses (inputs fits s e) number place = rw z at W.is in
+    resolve-refused {d} z F =
+        let h : InputRefuses (inputs fits s e) d.number d.place = rw z at W.is in
         let y : Refusal = h.0 in
-        ended (subst (λ (R : Result). HandedBack R b c x (Resolution.Refused number place)) (sym (result-of fits f (refused y) h.1))
+        ended (subst (λ (R : Result). HandedBack R b c x (Resolution.Refused d.number d.place)) (sym (result-of fits f (refused y) h.1))
         (record {
           told = told (number_of y) (place_of y) h.2 h.3;
           holding = record {
@@ -114,11 +114,11 @@ module _ (s e : List ℕ) (budget : ℕ) (b c x : List ℕ) where
         }))
         refl refl refl F
       where
-        told : (m p : ℕ) → number ≡ m → place.0 ≡ p
-            → resolution_told (Resolution.Refused number place) ≡ record { number = m; place = p; count = 0; trail = 0; table = 0; text = 0 }
+        told : (m p : ℕ) → d.number ≡ m → d.place.0 ≡ p
+            → resolution_told (Resolution.Refused d.number d.place) ≡ record { number = m; place = p; count = 0; trail = 0; table = 0; text = 0 }
         told m p i j = rw (i, j)
 
-    module _ {items unresolved : ℕ} (z : q ≡ Reading.Done items unresolved) (l : length B ≡ job_bytes) {i k : ℕ} (o : i ≡ room_of (length b))
+    module _ {v : Reading} (z : q ≡ Ok v) (l : length B ≡ job_bytes) {i k : ℕ} (o : i ≡ room_of (length b))
         (u : k ≡ room_of (length x)) where
       abbrev asked : ResolutionAsked T' B' e budget (take i b) (take k x)
       asked = resolution-asked s e budget b x f W z l o u

@@ -15,7 +15,7 @@ use Rattle.rules.specs.Tree.{Root, number_root, number_node}
 use Rattle.rules.specs.Unresolved.{Unresolved, unresolved_in}
 use Rattle.rules.specs.Documents.{Document, valid, refused, limited, of_root, read_tree, read_document, with_environment, inputs}
 use Rattle.theory.specs.FirstBytes.{first-byte-order}
-use Rattle.text_chars.specs.Cursor.{doc}
+use Rattle.text_chars.specs.Cursor.{doc, refusal}
 use Rattle.text_chars.specs.declared.DocAt.{DocAt}
 use Rattle.read_documents.specs.Bounds.{FitsIs}
 use Rattle.doc_items.specs.Parts.{letters}
@@ -67,7 +67,7 @@ module _ {s : List ℕ} {items : ℕ} {table table' : List ℕ} {r : Count} (h :
     unfolding d
     here = by-tree s ∙ ap of_root q ∙ of-got root end items
 
-    done : {c : ℕ} → r ≡ Count.Done c → ReadAs s (read_document s) table' text (Reading.Done items c)
+    done : {c : ℕ} → r ≡ Count.Done c → ReadAs s (read_document s) table' text (Ok (record { items = items; unresolved = c }))
     unfolding d
     done {c} e =
         let n : WithNumbers table' (items + 1) (letters 0 text) 0 (2 * length s) c (number_root root) = rw e at counted-as in
@@ -85,16 +85,16 @@ module _ {s : List ℕ} {items : ℕ} {table table' : List ℕ} {r : Count} (h :
           },
         )
 
-    excess : {p : DocAt} → r ≡ Count.Excess p → ReadAs s (read_document s) table' text (Reading.Refused 8 p)
+    excess : {p : DocAt} → r ≡ Count.Excess p → ReadAs s (read_document s) table' text (Err (refusal 8 p))
     unfolding d
     excess {p} e =
         let n : CountIs table' (items + 1) (letters 0 text) 0 (2 * length s) (Count.Excess p) (number_root root) = rw e at counted-as in
         (placed 8 n.0.place, here ∙ limited-denied d n.0 n.1, refl, n.2)
 
-  pub counted-done : {c : ℕ} → r ≡ Count.Done c → NumberTreeIs s items table table' (Reading.Done items c)
+  pub counted-done : {c : ℕ} → r ≡ Count.Done c → NumberTreeIs s items table table' (Ok (record { items = items; unresolved = c }))
   counted-done e = record { is = λ text root end q m. done text root end q m e; kept = h.same }
 
-  pub counted-excess : {p : DocAt} → r ≡ Count.Excess p → NumberTreeIs s items table table' (Reading.Refused 8 p)
+  pub counted-excess : {p : DocAt} → r ≡ Count.Excess p → NumberTreeIs s items table table' (Err (refusal 8 p))
   counted-excess e = record { is = λ text root end q m. excess text root end q m e; kept = h.same }
 
 pub ruleset counts = (counted-done, counted-excess)
@@ -102,21 +102,21 @@ pub ruleset counts = (counted-done, counted-excess)
 -- ---- documents
 
 -- what an answer says is an equation
-told : (s x t : List ℕ) (r : Reading) → ReadAs s (read_document s) x t r
+told : (s x t : List ℕ) (r : Result Reading Refused) → ReadAs s (read_document s) x t r
     → reading_told r ≡ input_told (λ d. d) (read_document s) (items_of (read_tree s 1 0))
-told s x t (Reading.Done items n) u = rw (u.1, u.2.items-are, u.2.unresolved-are) refl
-told s x t (Reading.Refused k p) u = rw (u.1, u.2, u.3) refl
+told s x t (Ok v) u = rw (u.1, u.2.items-are, u.2.unresolved-are) refl
+told s x t (Err y) u = rw (u.1, u.2, u.3) refl
 
-document-of : {s table text x t : List ℕ} {r : Reading} → ReadAs s (read_document s) x t r → length x ≡ length table → length t ≡ length text
+document-of : {s table text x t : List ℕ} {r : Result Reading Refused} → ReadAs s (read_document s) x t r → length x ≡ length table → length t ≡ length text
     → DocumentIs s table text x t r
 document-of {s} {table} {text} {x} {t} {r} u a b = record { answer = told s x t r u; is = u; kept_table = a; kept-text = b }
 
-told-inputs : (others : Bool) (s e x t : List ℕ) (r : Reading) → InputsAs others s e x t r
+told-inputs : (others : Bool) (s e x t : List ℕ) (r : Result Reading Refused) → InputsAs others s e x t r
     → reading_told r ≡ input_told (λ y. y.document) (inputs others s e) (items_of (read_tree s 1 0))
-told-inputs others s e x t (Reading.Done items n) u = rw (u.1, u.2.items-are, u.2.unresolved-are) refl
-told-inputs others s e x t (Reading.Refused k p) u = rw (u.1, u.2, u.3) refl
+told-inputs others s e x t (Ok v) u = rw (u.1, u.2.items-are, u.2.unresolved-are) refl
+told-inputs others s e x t (Err y) u = rw (u.1, u.2, u.3) refl
 
-inputs-of : {others : Bool} {s e table text x t : List ℕ} {r : Reading} → InputsAs others s e x t r → length x ≡ length table → length t ≡ length text
+inputs-of : {others : Bool} {s e table text x t : List ℕ} {r : Result Reading Refused} → InputsAs others s e x t r → length x ≡ length table → length t ≡ length text
     → InputsIs others s e table text x t r
 inputs-of {others} {s} {e} {table} {text} {x} {t} {r} u a b = record { answer = told-inputs others s e x t r u; is = u; kept_table = a; kept-text = b }
 
@@ -131,7 +131,7 @@ document-scratch a = record {
 }
 
 module _ {s table text x t : List ℕ} {r : Result Counters Refused} (m : TreeIs s (record { left = max_nesting - 1; items = 0 }) table text x t r) where
-  pub document-refused : {y : Refused} → r ≡ Err y → DocumentIs s table text x t (Reading.Refused y.number y.place)
+  pub document-refused : {y : Refused} → r ≡ Err y → DocumentIs s table text x t (Err y)
   document-refused {y} q =
       let u : TreeAs s (record { left = max_nesting - 1; items = 0 }) x t (Err y) = rw q at m.is in
       document-of (u.0, by-tree s ∙ ap of_root u.1 ∙ of-rejected u.0, u.2, u.3) m.kept_table m.kept-text
@@ -143,7 +143,7 @@ module _ {s table text x t : List ℕ} {r : Result Counters Refused} (m : TreeIs
     pub document-few : c.items ≤ max_items
     document-few = read.4.few
 
-    pub document-done : {x' : List ℕ} {v : Reading} → NumberTreeIs s c.items x x' v → DocumentIs s table text x' t v
+    pub document-done : {x' : List ℕ} {v : Result Reading Refused} → NumberTreeIs s c.items x x' v → DocumentIs s table text x' t v
     document-done w = document-of (w.is t read.0 read.1 read.2 read.4) (w.kept ∙ m.kept_table) m.kept-text
 
   pub document-room : DocumentAsked s table text → table_room ≤ length x
@@ -154,27 +154,27 @@ pub ruleset whole-documents = (document-scratch, document-refused, document-few,
 -- ---- inputs
 
 module _ {others : Bool} {s e : List ℕ} {b : Bool} (f : FitsIs others s e b) where
-  pub inputs-unfit : {table text : List ℕ} → b ≡ false → InputsIs others s e table text table text (Reading.Refused 1 (doc 0))
+  pub inputs-unfit : {table text : List ℕ} → b ≡ false → InputsIs others s e table text table text (Err (refusal 1 (doc 0)))
   inputs-unfit q = inputs-of (nowhere 1, f.no q, refl, refl) refl refl
 
   module _ (q : b ≡ true) where
     pub inputs-scratch : {table text : List ℕ} → table_room ≤ length table → text_room ≤ length text → DocumentAsked s table text
     inputs-scratch m n = record { short = f.short q; table-room = m; text-room = omega (arith, f.short q) }
 
-    pub inputs-done : {table text x t : List ℕ} {r : Reading} → DocumentIs s table text x t r → InputsIs others s e table text x t r
+    pub inputs-done : {table text x t : List ℕ} {r : Result Reading Refused} → DocumentIs s table text x t r → InputsIs others s e table text x t r
     inputs-done {table} {text} {x} {t} {r} m = inputs-of (go r refl) m.kept_table m.kept-text
       where
-        go : (w : Reading) → r ≡ w → InputsAs others s e x t w
-        go (Reading.Done items n) g =
-            let u : ReadAs s (read_document s) x t (Reading.Done items n) = rw g at m.is in
+        go : (w : Result Reading Refused) → r ≡ w → InputsAs others s e x t w
+        go (Ok v) g =
+            let u : ReadAs s (read_document s) x t (Ok v) = rw g at m.is in
             let y = f.yes q in (
               record { document = u.0; environment = text_of y.0 },
               y.2 ∙ ap (with_environment (text_of y.0)) u.1,
               u.2,
               (y.0, y.1, refl),
             )
-        go (Reading.Refused k p) g =
-            let u : ReadAs s (read_document s) x t (Reading.Refused k p) = rw g at m.is in
+        go (Err d) g =
+            let u : ReadAs s (read_document s) x t (Err d) = rw g at m.is in
             let y = f.yes q in
             (u.0, y.2 ∙ ap (with_environment (text_of y.0)) u.1, u.2, u.3)
 

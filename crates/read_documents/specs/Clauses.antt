@@ -1,5 +1,5 @@
 -- What reading a document, and the inputs of a job, promises.
-use Rattle.std.specs.Prelude.{◌≡◌, ℕ, ◌+◌, ◌*◌, ◌≤◌, Bool, List, map, length}
+use Rattle.std.specs.Prelude.{Result, Ok, Err, ◌≡◌, ℕ, ◌+◌, ◌*◌, ◌≤◌, Bool, List, map, length}
 use Rattle.std.proofs.Math.Option.{some}
 use Rattle.rules.specs.Sizes.{max_document, max_items}
 use Rattle.rules.specs.Refusals.{Refusal, number_of, place_of, Read, got, refused}
@@ -13,6 +13,7 @@ use Rattle.doc_items.specs.Parts.{numbers, letters}
 use Rattle.doc_items.specs.Room.{table_room}
 use Rattle.read_numbering.specs.Clauses.{Indexed}
 use Rattle.text_chars.specs.declared.DocAt.{DocAt}
+use Rattle.text_chars.specs.declared.Refusal.{Refusal as Refused}
 use Rattle.read_documents.specs.Trees.{TreeAt}
 use Rattle.read_documents.specs.declared.Reading.{Reading}
 
@@ -44,21 +45,21 @@ pub record Told : Type 0 where
   pub items : ℕ
   pub unresolved : ℕ
 
-abbrev pub reading_told : Reading → Told
-reading_told (Reading.Done items n) = record { number = 0; place = 0; items = items; unresolved = n }
-reading_told (Reading.Refused k p) = record { number = k; place = p.0; items = 0; unresolved = 0 }
+abbrev pub reading_told : Result Reading Refused → Told
+reading_told (Ok v) = record { number = 0; place = 0; items = v.items; unresolved = v.unresolved }
+reading_told (Err r) = record { number = r.number; place = r.place.0; items = 0; unresolved = 0 }
 
 abbrev pub input_told : {A : Type 0} → (A → Document) → Input A → (items : ℕ) → Told
 input_told f (valid a) items = record { number = 0; place = 0; items = items; unresolved = length (f a).unresolved }
 input_told f (refused x) items = record { number = number_of x; place = place_of x; items = 0; unresolved = 0 }
 
 -- what the rules read, and that it stands in memory
-abbrev pub ReadAs : List ℕ → Input Document → List ℕ → List ℕ → Reading → Type 0
-ReadAs s m table text (Reading.Done items n) = (d : Document) × (m ≡ valid d) × Stands s table text items n d
-ReadAs s m table text (Reading.Refused k p) = InputRefuses m k p
+abbrev pub ReadAs : List ℕ → Input Document → List ℕ → List ℕ → Result Reading Refused → Type 0
+ReadAs s m table text (Ok v) = (d : Document) × (m ≡ valid d) × Stands s table text v.items v.unresolved d
+ReadAs s m table text (Err r) = InputRefuses m r.number r.place
 
 -- the numbers of a tree that was read and stands in memory without them
-pub record NumberTreeIs (s : List ℕ) (items : ℕ) (table table' : List ℕ) (r : Reading) : Type 0 where
+pub record NumberTreeIs (s : List ℕ) (items : ℕ) (table table' : List ℕ) (r : Result Reading Refused) : Type 0 where
   pub is : (text : List ℕ) (root : Root) (end : ℕ) → read_tree s 1 0 ≡ got root end items → TreeAt s table text 0 items root
       → ReadAs s (read_document s) table' text r
   pub kept : length table' ≡ length table
@@ -69,20 +70,20 @@ pub record DocumentAsked (s table text : List ℕ) : Type 0 where
   pub text-room : 2 * length s ≤ length text
 
 -- The answer is the rules', and where they read a document it stands in memory.
-pub record DocumentIs (s table text table' text' : List ℕ) (r : Reading) : Type 0 where
+pub record DocumentIs (s table text table' text' : List ℕ) (r : Result Reading Refused) : Type 0 where
   pub answer : reading_told r ≡ input_told (λ d. d) (read_document s) (items_of (read_tree s 1 0))
   pub is : ReadAs s (read_document s) table' text' r
   pub kept_table : length table' ≡ length table
   pub kept-text : length text' ≡ length text
 
 -- The inputs of a job. The environment is the function of its entries.
-abbrev pub InputsAs : Bool → List ℕ → List ℕ → List ℕ → List ℕ → Reading → Type 0
-InputsAs others s e table text (Reading.Done items n) =
-    (x : Setting) × (inputs others s e ≡ valid x) × Stands s table text items n x.document
+abbrev pub InputsAs : Bool → List ℕ → List ℕ → List ℕ → List ℕ → Result Reading Refused → Type 0
+InputsAs others s e table text (Ok v) =
+    (x : Setting) × (inputs others s e ≡ valid x) × Stands s table text v.items v.unresolved x.document
     × ((es : List Variable) × (entries_of e ≡ some es) × (x.environment ≡ text_of es))
-InputsAs others s e table text (Reading.Refused k p) = InputRefuses (inputs others s e) k p
+InputsAs others s e table text (Err r) = InputRefuses (inputs others s e) r.number r.place
 
-pub record InputsIs (others : Bool) (s e table text table' text' : List ℕ) (r : Reading) : Type 0 where
+pub record InputsIs (others : Bool) (s e table text table' text' : List ℕ) (r : Result Reading Refused) : Type 0 where
   pub answer : reading_told r ≡ input_told (λ x. x.document) (inputs others s e) (items_of (read_tree s 1 0))
   pub is : InputsAs others s e table' text' r
   pub kept_table : length table' ≡ length table

@@ -122,34 +122,32 @@ fn read_tree(
 
 // ---- the document
 
-/// What reading gives.
+/// How many items and how many unresolved values a document has that was read. The table and the text part hold it.
 #[derive(Clone, Copy)]
-pub enum Reading {
-    /// How many items and how many unresolved values a document has. The table and the text part hold it.
-    Done { items: usize, unresolved: usize },
-    /// The number and the place of a refusal.
-    Refused { number: u8, place: DocAt },
+pub struct Reading {
+    pub items: usize,
+    pub unresolved: usize,
 }
 
 // The numbers of the unresolved values of a tree that was read.
-fn number_tree(s: &[u8], items: usize, table: &mut [u16]) -> Reading
+fn number_tree(s: &[u8], items: usize, table: &mut [u16]) -> Result<Reading, Refusal>
     requires { (items ≤ max_items) × (table_room ≤ length table.old) }
     ensures { NumberTreeIs s.now items table.old table.new result }
 {
     match read_numbering::number_items(table, items + 1) {
-        Count::Done { count } => Reading::Done {
+        Count::Done { count } => Ok(Reading {
             items,
             unresolved: count,
-        },
-        Count::Excess { place } => Reading::Refused {
+        }),
+        Count::Excess { place } => Err(Refusal {
             number: refusals::OVER_LIMIT,
             place,
-        },
+        }),
     }
 }
 
 // Reads a document that is not too long: its tree, from nesting 1 and without items, then the limit on unresolved values.
-fn read_document(s: &[u8], table: &mut [u16], text: &mut [u8]) -> Reading
+fn read_document(s: &[u8], table: &mut [u16], text: &mut [u8]) -> Result<Reading, Refusal>
     requires { DocumentAsked s.now table.old text.old }
     ensures { DocumentIs s.now
         table.old text.old table.new text.new result }
@@ -158,13 +156,8 @@ fn read_document(s: &[u8], table: &mut [u16], text: &mut [u8]) -> Reading
         left: limits::NESTING_IN_ROOT,
         items: 0,
     };
-    match read_tree(s, none, table, text) {
-        Err(e) => Reading::Refused {
-            number: e.number,
-            place: e.place,
-        },
-        Ok(counters) => number_tree(s, counters.items, table),
-    }
+    let tree = read_tree(s, none, table, text)?;
+    number_tree(s, tree.items, table)
 }
 
 /// Reads the inputs of a job, whatever they are: 1 first, where the job's other inputs do not fit, or of the document's length or of the
@@ -175,7 +168,7 @@ pub fn read_inputs(
     environment: &[u8],
     table: &mut [u16],
     text: &mut [u8],
-) -> Reading
+) -> Result<Reading, Refusal>
     requires { (table_room ≤ length table.old) × (text_room ≤ length text.old) }
     ensures { InputsIs others_fit document.now environment.now
         table.old text.old table.new text.new result }
@@ -183,10 +176,10 @@ pub fn read_inputs(
     if fits(others_fit, document, environment) {
         return read_document(document, table, text);
     }
-    Reading::Refused {
+    Err(Refusal {
         number: refusals::BAD_INPUT,
         place: DocAt(0),
-    }
+    })
 }
 
 /// Whether a job's other inputs fit, its document is not too long and its environment is by its rule. They are looked at in this order.

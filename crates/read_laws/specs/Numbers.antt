@@ -1,5 +1,5 @@
 -- What the promises of reading say of each refusal, number by number: what any code that keeps them answers. No code is here.
-use Rattle.std.specs.Prelude.{Ok, ◌≡◌, refl, ℕ, false, List}
+use Rattle.std.specs.Prelude.{Result, Ok, ◌≡◌, refl, ℕ, false, List}
 use Rattle.std.proofs.Common.{ap, ◌∙◌}
 use Rattle.std.proofs.Math.Option.{some}
 use Rattle.std.proofs.Math.ListN.{get_elem?}
@@ -9,6 +9,7 @@ use Rattle.rules.specs.Utf8.{ill_formed}
 use Rattle.rules.specs.Tree.{Root, number_root}
 use Rattle.rules.specs.Unresolved.{Unresolved, unresolved_in}
 use Rattle.rules.specs.Documents.{Document, refused, limited, of_root, read_tree, read_document, inputs}
+use Rattle.text_chars.specs.declared.Refusal.{Refusal as Refused}
 use Rattle.read_documents.specs.Trees.{TreeIs}
 use Rattle.read_documents.specs.declared.Counters.{Counters}
 use Rattle.read_documents.specs.Clauses.{Told, reading_told, DocumentIs, InputsIs}
@@ -49,19 +50,19 @@ over-limit d u e = rw (e, limited)
 -- ---- inputs and documents
 
 -- "1 an input over its bytes or against its rule", which has no place
-pub bounds-are-1 : {s e table text table' text' : List ℕ} {r : Reading} → InputsIs false s e table text table' text' r
+pub bounds-are-1 : {s e table text table' text' : List ℕ} {r : Result Reading Refused} → InputsIs false s e table text table' text' r
     → reading_told r ≡ refusal 1 0
 unfolding inputs
 bounds-are-1 h = h.answer
 
 -- "2 ill-formed UTF-8", before anything is read
-pub ill-formed-is-2 : {s table text table' text' : List ℕ} {r : Reading} (place : ℕ) → ill_formed s ≡ some place
+pub ill-formed-is-2 : {s table text table' text' : List ℕ} {r : Result Reading Refused} (place : ℕ) → ill_formed s ≡ some place
     → DocumentIs s table text table' text' r
     → reading_told r ≡ refusal 2 place
 ill-formed-is-2 {s} place e h = h.answer ∙ rw (document-ill s place e) refl
 
 -- "8 .. too many unresolved values", at the first one over the limit
-pub excess-is-8 : {s table text table' text' : List ℕ} {r : Reading} (root : Root) (end items : ℕ) (u : Unresolved)
+pub excess-is-8 : {s table text table' text' : List ℕ} {r : Result Reading Refused} (root : Root) (end items : ℕ) (u : Unresolved)
     → read_tree s 1 0 ≡ got root end items
     → get_elem? (unresolved_in (number_root root)) max_unresolved ≡ some u
     → DocumentIs s table text table' text' r

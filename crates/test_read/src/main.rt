@@ -14,7 +14,6 @@ use doc_items::{
     COLUMN_KEY, COLUMN_KEYLEN, COLUMN_KIND, COLUMN_NUMBER, COLUMN_PLACE, COLUMN_SIZE, COLUMN_TEXT,
     COLUMN_TEXTLEN,
 };
-use read_documents::Reading;
 use std::io;
 
 /// The first kind of a substitution; there is no kind behind the two.
@@ -101,16 +100,16 @@ fn run(rt: &HostRuntime, document: &[u8], environment: &[u8]) -> io::Result<()> 
     let mut table = [0u16; doc_items::TABLE];
     let mut text = [0u8; doc_items::TEXTS];
     match read_documents::read_inputs(true, document, environment, &mut table, &mut text) {
-        Reading::Done { items, unresolved } => {
+        Ok(read) => {
             rt.print("0 ")?;
-            test_cases::print_number(rt, items)?;
-            test_cases::print_last(rt, unresolved)?;
+            test_cases::print_number(rt, read.items)?;
+            test_cases::print_last(rt, read.unresolved)?;
             if document.len() <= 64 {
-                print_items(rt, &table, &text, items)?;
+                print_items(rt, &table, &text, read.items)?;
             }
             Ok(())
         }
-        Reading::Refused { number, place } => test_cases::print_answer(rt, number, place),
+        Err(e) => test_cases::print_answer(rt, e.number, e.place),
     }
 }
 
