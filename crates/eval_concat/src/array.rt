@@ -1,6 +1,6 @@
 // A piece that is an array joined: its elements stand behind those of the join.
 // Computes: Unresolved (join_piece)
-ghost use Rattle.std.specs.Prelude.{◌≡◌, ◌≤◌, ◌<◌, max};
+ghost use Rattle.std.specs.Prelude.{◌≡◌, ◌≤◌, ◌<◌};
 ghost use Rattle.doc_items.specs.Room.{number_bound};
 ghost use Rattle.eval_concat.specs.Model.{piece_c};
 ghost use Rattle.eval_concat.specs.Clauses.{farthest, NearKind, SizeAsked, MembersAsked, MembersAddedIs, MembersJoinedIs};
@@ -26,12 +26,6 @@ fn array_size(from: Out, r: Extent) -> Extent
     }
 }
 
-fn greater(a: usize, b: usize) -> usize
-    ensures { result ≡ max a b }
-{
-    if a < b { b } else { a }
-}
-
 // The join with n elements more, of which the deepest is nested so deep.
 fn add_members(table: &[u16], j: Join, n: usize, r: Extent, i: usize) -> Result<Join, Refusal>
     requires { NearKind j.kind × (n ≤ farthest) × (r.deep ≤ farthest) × (i < number_bound) }
@@ -48,7 +42,7 @@ fn add_members(table: &[u16], j: Join, n: usize, r: Extent, i: usize) -> Result<
         Kind::Array { count } => tested(Join {
             kind: Kind::Array { count: count + n },
             extent: Extent {
-                deep: greater(j.extent.deep, deep),
+                deep: j.extent.deep.max(deep),
                 ..r
             },
         }),

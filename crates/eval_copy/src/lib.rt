@@ -25,12 +25,9 @@ fn one_deeper(m: Copied) -> Copied
     requires { m.deep ≤ most_levels }
     ensures { DeeperIs m result }
 {
-    let next = m.next;
-    let out = m.out;
     Copied {
-        next,
-        out,
         deep: m.deep + 1,
+        ..m
     }
 }
 
@@ -79,22 +76,19 @@ fn copy_held(
     ensures { HeldIs levels table.now bytes.now texts.0 kind at.0 o result
         room.old room.new }
 {
-    let p = at.0;
     if levels == 0 {
         return Copied {
-            next: RecAt(p + 1),
+            next: RecAt(at.0 + 1),
             out: o,
             deep: 0,
         };
     }
     let count = copy_head(room, bytes, kind, at, o);
-    let rec = o.rec;
-    let text = o.text;
     let c = Copied {
-        next: RecAt(p + HEAD),
+        next: RecAt(at.0 + HEAD),
         out: Out {
-            rec: RecAt(rec.0 + HEAD),
-            text,
+            rec: RecAt(o.rec.0 + HEAD),
+            ..o
         },
         deep: 0,
     };
@@ -132,16 +126,13 @@ pub fn copy_members(
     let mut d = c;
     let mut left = count;
     while 0 < left {
-        let next = d.next;
-        if bytes.len() <= next.0 {
+        if bytes.len() <= d.next.0 {
             return d;
         }
         let m = copy_member(room, table, bytes, texts, keyed, d, levels);
         left -= 1;
-        let from = m.next;
         d = copy_run(room, bytes, keyed, d.deep, m, left);
-        let to = d.next;
-        left -= to.0 - from.0;
+        left -= d.next.0 - m.next.0;
     }
     d
 }
@@ -163,7 +154,5 @@ fn copy_member(
         room.old room.new }
 {
     let k = copy_key(room, table, bytes, keyed, c);
-    let next = k.next;
-    let o = k.out;
-    copy_value(room, table, bytes, texts, next, o, levels)
+    copy_value(room, table, bytes, texts, k.next, k.out, levels)
 }

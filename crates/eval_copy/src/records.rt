@@ -17,23 +17,15 @@ pub fn copy_key(room: &mut [u8], table: &[u16], bytes: &[u8], keyed: bool, c: Co
     ensures { CopiedIs bytes.now 5 (copy_k table.now bytes.now keyed c.next.0) c.out result
         room.old room.new }
 {
-    let at = c.next;
-    let p = at.0;
-    let o = c.out;
     if keyed {
-        let k = pair_at(bytes, RecAt(p + 1));
-        let r = put_key(room, table, bytes, k, o);
+        let k = pair_at(bytes, RecAt(c.next.0 + 1));
         return Copied {
-            next: RecAt(p + WORD),
-            out: r,
+            next: RecAt(c.next.0 + WORD),
+            out: put_key(room, table, bytes, k, c.out),
             deep: 0,
         };
     }
-    Copied {
-        next: RecAt(p),
-        out: o,
-        deep: 0,
-    }
+    Copied { deep: 0, ..c }
 }
 
 /// A value of one byte.
@@ -41,11 +33,9 @@ pub fn copy_plain(room: &mut [u8], bytes: &[u8], kind: u8, at: RecAt, o: Out) ->
     requires { Room room.old × Span bytes.now at.0 o × (at.0 ≤ length bytes.now + 5) }
     ensures { CopiedIs bytes.now 10 (plain_c kind at.0) o result room.old room.new }
 {
-    let p = at.0;
-    let r = put_plain(room, kind, o);
     Copied {
-        next: RecAt(p + 1),
-        out: r,
+        next: RecAt(at.0 + 1),
+        out: put_plain(room, kind, o),
         deep: 0,
     }
 }
@@ -63,13 +53,11 @@ pub fn copy_word(
     ensures { CopiedIs bytes.now 10 (word_c bytes.now texts.0 kind at.0 o.text.0) o result
         room.old room.new }
 {
-    let p = at.0;
-    let from = pair_at(bytes, RecAt(p + 1));
-    let n = pair_at(bytes, RecAt(p + 3));
-    let r = put_string(room, bytes, kind, TextAt(texts.0 + from), TextLen(n), o);
+    let from = pair_at(bytes, RecAt(at.0 + 1));
+    let n = pair_at(bytes, RecAt(at.0 + 3));
     Copied {
-        next: RecAt(p + WORD),
-        out: r,
+        next: RecAt(at.0 + WORD),
+        out: put_string(room, bytes, kind, TextAt(texts.0 + from), TextLen(n), o),
         deep: 0,
     }
 }
@@ -79,9 +67,7 @@ pub fn copy_head(room: &mut [u8], bytes: &[u8], kind: u8, at: RecAt, o: Out) -> 
     requires { Room room.old × Span bytes.now at.0 o × (at.0 ≤ length bytes.now + 5) }
     ensures { HeadIs bytes.now kind at.0 o.rec.0 result room.old room.new }
 {
-    let p = at.0;
-    let rec = o.rec;
-    let inside = pair_at(bytes, RecAt(p + 1));
-    put_head(room, rec, kind, inside);
+    let inside = pair_at(bytes, RecAt(at.0 + 1));
+    put_head(room, o.rec, kind, inside);
     count_members(bytes, at)
 }

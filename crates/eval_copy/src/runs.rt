@@ -1,6 +1,6 @@
 // A run of records of one byte each, copied from a job's bytes into a value's room as it stands.
 // Computes: Sheet
-ghost use Rattle.std.specs.Prelude.{◌≡◌, ◌+◌, ◌≤◌, min, max, length, take, drop};
+ghost use Rattle.std.specs.Prelude.{◌+◌, ◌≤◌, length, take, drop};
 ghost use Rattle.eval_writer.specs.Clauses.{Room, Puts};
 ghost use Rattle.eval_writer.specs.Copies.Contracts.{Span};
 ghost use Rattle.eval_copy.specs.Runs.Contracts.{RunOf, RunDone};
@@ -11,38 +11,19 @@ use eval_writer::{Out, fill};
 use sheet_runs::run_end;
 use text_chars::RecAt;
 
-fn least(a: usize, b: usize) -> usize
-    ensures { result ≡ min a b }
-{
-    if a < b {
-        return a;
-    }
-    b
-}
-
-fn greatest(a: usize, b: usize) -> usize
-    ensures { result ≡ max a b }
-{
-    if a < b {
-        return b;
-    }
-    a
-}
-
 // How many of so many members that are left stand at a place as records of one byte each. An object's members have keys, so that none does.
 fn run_length(bytes: &[u8], keyed: bool, at: RecAt, left: usize) -> usize
     ensures { RunOf bytes.now keyed at.0 left result }
 {
-    let p = at.0;
     if keyed {
         return 0;
     }
-    if bytes.len() <= p {
+    if bytes.len() <= at.0 {
         return 0;
     }
-    let most = least(bytes.len() - p, left);
-    let end = run_end(bytes, at, RecAt(p + most));
-    end.0 - p
+    let most = (bytes.len() - at.0).min(left);
+    let end = run_end(bytes, at, RecAt(at.0 + most));
+    end.0 - at.0
 }
 
 // So many bytes, as many of them as have room among the records.
@@ -50,13 +31,11 @@ fn put_run(room: &mut [u8], at: RecAt, bytes: &[u8], from: RecAt, n: usize)
     requires { Room room.old × (from.0 + n ≤ length bytes.now) }
     ensures { Puts at.0 (take n (drop from.0 bytes.now)) room.old room.new }
 {
-    let p = at.0;
-    let f = from.0;
-    if limits::RECORDS <= p {
+    if limits::RECORDS <= at.0 {
         return;
     }
-    let m = least(limits::RECORDS - p, n);
-    fill(room, p, bytes, f, m);
+    let m = (limits::RECORDS - at.0).min(n);
+    fill(room, at.0, bytes, from.0, m);
 }
 
 /// Of so many members that are left, those that stand next as records of one byte each, copied as they stand. More of them may follow.
@@ -72,25 +51,17 @@ pub fn copy_run(
     requires { Room room.old × Span bytes.now c.next.0 c.out × (c.next.0 ≤ length bytes.now + 10) }
     ensures { RunDone bytes.now keyed left before c result room.old room.new }
 {
-    let at = c.next;
-    let o = c.out;
-    let rec = o.rec;
-    let text = o.text;
-    let deep = greatest(before, c.deep);
-    let n = run_length(bytes, keyed, at, left);
+    let deep = before.max(c.deep);
+    let n = run_length(bytes, keyed, c.next, left);
     if n == 0 {
-        return Copied {
-            next: at,
-            out: o,
-            deep,
-        };
+        return Copied { deep, ..c };
     }
-    put_run(room, rec, bytes, at, n);
+    put_run(room, c.out.rec, bytes, c.next, n);
     Copied {
-        next: RecAt(at.0 + n),
+        next: RecAt(c.next.0 + n),
         out: Out {
-            rec: RecAt(rec.0 + n),
-            text,
+            rec: RecAt(c.out.rec.0 + n),
+            ..c.out
         },
         deep,
     }

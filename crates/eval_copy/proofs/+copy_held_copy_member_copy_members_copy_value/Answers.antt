@@ -16,8 +16,8 @@ copy_member-returns t c = search member_is
 pub copy_members-loop-left-init : goal.copy_members-loop-left-init
 copy_members-loop-left-init t c = search members-laws
 
-pub copy_members-returns-then-bytes-next : goal.copy_members-returns-then-bytes-next
-copy_members-returns-then-bytes-next t c = search members-laws
+pub copy_members-returns-then-bytes-d : goal.copy_members-returns-then-bytes-d
+copy_members-returns-then-bytes-d t c = search members-laws
 
 pub copy_members-overflow_sub-left-in-loop-left-2 : goal.copy_members-overflow_sub-left-in-loop-left-2
 copy_members-overflow_sub-left-in-loop-left-2 t c = search members-laws
