@@ -156,10 +156,8 @@ fn print_part(rt: &HostRuntime, part: &[u8], behind: &str) -> io::Result<()> {
     if part.len() == 0 {
         rt.print("-")?;
     }
-    let mut k = 0;
-    while k < part.len() {
-        print!(rt; "{:02x}", part[k])?;
-        k += 1;
+    for byte in part {
+        print!(rt; "{byte:02x}")?;
     }
     rt.print(behind)
 }

@@ -33,9 +33,10 @@ fn run_next(rt: &HostRuntime) -> io::Result<bool> {
 
 // A loop that is proved has to end, and nothing says that the input does: hence the count of turns.
 fn main(rt: HostRuntime) -> io::Result<()> {
-    let mut turns = u64::MAX;
-    while turns > 0 && run_next(&rt)? {
-        turns -= 1;
+    for _ in 0..u64::MAX {
+        if !run_next(&rt)? {
+            break;
+        }
     }
     Ok(())
 }

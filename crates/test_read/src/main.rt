@@ -85,13 +85,11 @@ fn print_item(
 // Writes the root's line and those of so many items.
 fn print_items(rt: &HostRuntime, table: &[u16], text: &[u8], items: usize) -> io::Result<()> {
     let mut simple = 0;
-    let mut i = 0;
-    while i < doc_items::CAPACITY {
+    for i in 0..doc_items::CAPACITY {
         if items < i {
-            return Ok(());
+            break;
         }
         simple = print_item(rt, table, text, i, simple)?;
-        i += 1;
     }
     Ok(())
 }
@@ -117,21 +115,22 @@ fn run(rt: &HostRuntime, document: &[u8], environment: &[u8]) -> io::Result<()> 
 fn run_next(rt: &HostRuntime) -> io::Result<bool> {
     let document = test_cases::next_part(rt, true)?;
     let environment = test_cases::next_part(rt, document.there)?;
-    let a = document.bytes;
-    let b = environment.bytes;
-    let n = document.size;
-    let m = environment.size;
     if environment.there {
-        run(rt, &a[..n], &b[..m])?;
+        run(
+            rt,
+            &document.bytes[..document.size],
+            &environment.bytes[..environment.size],
+        )?;
     }
     Ok(environment.there)
 }
 
 // A loop that is proved has to end, and nothing says that the input does: hence the count of turns.
 fn main(rt: HostRuntime) -> io::Result<()> {
-    let mut turns = u64::MAX;
-    while turns > 0 && run_next(&rt)? {
-        turns -= 1;
+    for _ in 0..u64::MAX {
+        if !run_next(&rt)? {
+            break;
+        }
     }
     Ok(())
 }
