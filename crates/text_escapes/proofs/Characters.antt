@@ -13,7 +13,6 @@ use Rattle.rules.specs.Strings.{expect, letter_escape}
 use Rattle.text_chars.specs.Cursor.{doc, refusal, StepIs}
 use Rattle.text_chars.specs.Seen.{Seen, seen, at-end, seen-eq, seen-ne, same_seen}
 use Rattle.text_chars.specs.declared.DocAt.{DocAt}
-use Rattle.text_chars.specs.declared.Cursor.{Cursor}
 use Rattle.text_chars.specs.declared.Step.{Step}
 use Rattle.text_escapes.specs.Clauses.{LetterIs, ExpectIs}
 
