@@ -38,7 +38,6 @@ use Rattle.eval_question_laws.specs.Standing.{pieces-begin, pieces_end, node-giv
 use Rattle.eval_unresolved.specs.Pieces.Contracts.{Behind}
 use Rattle.eval_unresolved.specs.Pieces.Several.{behind-left, inside, behind-next, behind-end}
 use Rattle.eval_ahead.specs.Clauses.{Starts, FirstIs, Found, FinishedAsked, FinishedIs, MissedCase, LackIs, MissedAsked, MissedIs, Passes, here, more, AheadIs}
-use Rattle.eval_ahead.specs.declared.Awaited.{Awaited}
 use Rattle.eval_ahead.proofs.Finished.{finished-asked}
 
 -- ---- where the looking begins

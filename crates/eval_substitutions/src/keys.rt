@@ -92,6 +92,7 @@ pub fn path_keys(table: &[u16], texts: &[u8], route: Route, keys: &mut [u16])
     ensures { PathKeysIs texts.now table.now route keys.old keys.new }
 {
     for i in 0..route.count {
-        keys[i] = path_key(table, texts, route, i) as u16;
+        let k = path_key(table, texts, route, i);
+        keys[i] = k as u16;
     }
 }
