@@ -16,12 +16,10 @@ use Rattle.rules.specs.Unresolved.{Unresolved, unresolved_in}
 use Rattle.rules.specs.Documents.{Document, valid, refused, limited, of_root, read_tree, read_document, with_environment, inputs}
 use Rattle.theory.specs.FirstBytes.{first-byte-order}
 use Rattle.text_chars.specs.Cursor.{doc, refusal}
-use Rattle.text_chars.specs.declared.DocAt.{DocAt}
 use Rattle.read_documents.specs.Bounds.{FitsIs}
 use Rattle.doc_items.specs.Parts.{letters}
 use Rattle.read_numbering.specs.Clauses.{CountIs, WithNumbers, NumberIs}
 use Rattle.read_numbering.specs.Reading.{as_read}
-use Rattle.read_numbering.specs.declared.Count.{Count}
 use Rattle.read_documents.specs.Trees.{ScratchAsked, TreeAt, TreeAs, TreeIs}
 use Rattle.read_documents.specs.Clauses.{items_of, reading_told, input_told, ReadAs, NumberTreeIs, DocumentAsked, DocumentIs, InputsAs, InputsIs}
 use Rattle.read_documents.specs.declared.Counters.{Counters}
@@ -54,7 +52,7 @@ of-rejected : (x : Refusal) → of_root (refused x) ≡ refused x
 unfolding of_root
 of-rejected x = refl
 
-module _ {s : List ℕ} {items : ℕ} {table table' : List ℕ} {r : Count} (h : NumberIs table (items + 1) table' r) where
+module _ {s : List ℕ} {items : ℕ} {table table' : List ℕ} {r : Result ℕ Refused} (h : NumberIs table (items + 1) table' r) where
   module _ (text : List ℕ) (root : Root) (end : ℕ) (q : read_tree s 1 0 ≡ got root end items) (m : TreeAt s table text 0 items root) where
     d : Document
     d = record { root = number_root root; unresolved = unresolved_in (number_root root) }
@@ -67,7 +65,7 @@ module _ {s : List ℕ} {items : ℕ} {table table' : List ℕ} {r : Count} (h :
     unfolding d
     here = by-tree s ∙ ap of_root q ∙ of-got root end items
 
-    done : {c : ℕ} → r ≡ Count.Done c → ReadAs s (read_document s) table' text (Ok (record { items = items; unresolved = c }))
+    done : {c : ℕ} → r ≡ Ok c → ReadAs s (read_document s) table' text (Ok (record { items = items; unresolved = c }))
     unfolding d
     done {c} e =
         let n : WithNumbers table' (items + 1) (letters 0 text) 0 (2 * length s) c (number_root root) = rw e at counted-as in
@@ -85,16 +83,16 @@ module _ {s : List ℕ} {items : ℕ} {table table' : List ℕ} {r : Count} (h :
           },
         )
 
-    excess : {p : DocAt} → r ≡ Count.Excess p → ReadAs s (read_document s) table' text (Err (refusal 8 p))
+    excess : {y : Refused} → r ≡ Err y → ReadAs s (read_document s) table' text (Err y)
     unfolding d
-    excess {p} e =
-        let n : CountIs table' (items + 1) (letters 0 text) 0 (2 * length s) (Count.Excess p) (number_root root) = rw e at counted-as in
-        (placed 8 n.0.place, here ∙ limited-denied d n.0 n.1, refl, n.2)
+    excess {y} e =
+        let n : CountIs table' (items + 1) (letters 0 text) 0 (2 * length s) (Err y) (number_root root) = rw e at counted-as in
+        (placed 8 n.0.place, here ∙ limited-denied d n.0 n.1, n.2, n.3)
 
-  pub counted-done : {c : ℕ} → r ≡ Count.Done c → NumberTreeIs s items table table' (Ok (record { items = items; unresolved = c }))
+  pub counted-done : {c : ℕ} → r ≡ Ok c → NumberTreeIs s items table table' (Ok (record { items = items; unresolved = c }))
   counted-done e = record { is = λ text root end q m. done text root end q m e; kept = h.same }
 
-  pub counted-excess : {p : DocAt} → r ≡ Count.Excess p → NumberTreeIs s items table table' (Err (refusal 8 p))
+  pub counted-excess : {y : Refused} → r ≡ Err y → NumberTreeIs s items table table' (Err y)
   counted-excess e = record { is = λ text root end q m. excess text root end q m e; kept = h.same }
 
 pub ruleset counts = (counted-done, counted-excess)

@@ -14,7 +14,6 @@ ghost use Rattle.read_documents.specs.Bounds.{FitsIs};
 use codes::{limits, refusals};
 use doc_items::{Item, WIDTH};
 use read_grammar::roots::Opening;
-use read_numbering::Count;
 use read_values::pieces::Listed;
 use text_chars::{DocAt, Refusal, TextAt, TextLen, ill_formed};
 
@@ -134,16 +133,8 @@ fn number_tree(s: &[u8], items: usize, table: &mut [u16]) -> Result<Reading, Ref
     requires { (items ≤ max_items) × (table_room ≤ length table.old) }
     ensures { NumberTreeIs s.now items table.old table.new result }
 {
-    match read_numbering::number_items(table, items + 1) {
-        Count::Done { count } => Ok(Reading {
-            items,
-            unresolved: count,
-        }),
-        Count::Excess { place } => Err(Refusal {
-            number: refusals::OVER_LIMIT,
-            place,
-        }),
-    }
+    let unresolved = read_numbering::number_items(table, items + 1)?;
+    Ok(Reading { items, unresolved })
 }
 
 // Reads a document that is not too long: its tree, from nesting 1 and without items, then the limit on unresolved values.

@@ -1,4 +1,5 @@
 -- One law for each answer of the functions that number the items.
+use Rattle.std.specs.Prelude.{Result, Ok, Err}
 use mathlib.Core.Path.{◌≡◌, refl, sym, ap, ◌∙◌}
 use Prim.Native.Nat.{ℕ, suc, ◌+◌, ◌*◌, ◌≤◌, ◌<◌}
 use mathlib.Core.List.{List, [], ◌∷◌}
@@ -12,7 +13,8 @@ use lib.Seq.{get_or-set_same, get_or-set_other}
 use borrow.Author.Tests.{ltb-true, ltb-false}
 use Rattle.doc_items.specs.Writing.{ReadIs}
 use Rattle.doc_items.specs.Room.{index_at, capacity, table_room}
-use Rattle.text_chars.specs.declared.DocAt.{DocAt}
+use Rattle.text_chars.specs.Cursor.{doc, refusal}
+use Rattle.text_chars.specs.declared.Refusal.{Refusal}
 use Rattle.rules.specs.Tree.{Pieces, Root, fields, elements, root_node, number_node, number_root}
 use Rattle.rules.specs.Layers.{end}
 use Rattle.rules.specs.Unresolved.{Unresolved, Openness, in_node, unresolved_in}
@@ -20,7 +22,6 @@ use Rattle.theory.specs.Numbering.{count-node}
 use Rattle.doc_items.specs.Holds.{NodeAt, PiecesAt}
 use Rattle.doc_items.specs.Parts.{numbers}
 use Rattle.doc_items.specs.Joining.{elements-forward, fields-forward}
-use Rattle.read_numbering.specs.declared.Count.{Count}
 use Rattle.read_numbering.specs.Clauses.{GiveIs, Step, ItemIs, WithoutNumbers, ItemOf, Indexed, WithNumbers, NumberIs}
 use Rattle.read_numbering.proofs.Counts.{eights, eights-one, eights-none, eights-less, eights-same}
 use Rattle.read_numbering.proofs.Trees.{Any, Same, member_apart, member-fits, counts-node, Given, shown-node, shown-pieces}
@@ -37,13 +38,13 @@ give-length : {i number : ℕ} {t u : List ℕ} → GiveIs i number t u → leng
 give-length {i} {number} {t} {u} k = ap length k.is ∙ simp length-set
 
 module _ {t : List ℕ} {i count kind : ℕ} (h : ReadIs t (8 * i) kind) where
-  pub item-other : (kind ≡ 8 → ⊥) → ItemIs i count t t (Count.Done count)
+  pub item-other : (kind ≡ 8 → ⊥) → ItemIs i count t t (Ok count)
   item-other e = record { same = refl; is = inl (λ z. e (h.is ∙ z), refl, refl) }
 
-  pub item-excess : {p : ℕ} → kind ≡ 8 → count ≡ 256 → ReadIs t (8 * (i + 1) + 6) p → ItemIs i count t t (Count.Excess (record { 0 = p }))
-  item-excess e l k = record { same = refl; is = (sym h.is ∙ e, l, k.is, refl) }
+  pub item-excess : {p : ℕ} → kind ≡ 8 → count ≡ 256 → ReadIs t (8 * (i + 1) + 6) p → ItemIs i count t t (Err (refusal 8 (doc p)))
+  item-excess e l k = record { same = refl; is = (sym h.is ∙ e, l, refl, k.is, refl) }
 
-  pub item-given : {u : List ℕ} → kind ≡ 8 → (count ≡ 256 → ⊥) → count ≤ 256 → GiveIs i count t u → ItemIs i count t u (Count.Done (count + 1))
+  pub item-given : {u : List ℕ} → kind ≡ 8 → (count ≡ 256 → ⊥) → count ≤ 256 → GiveIs i count t u → ItemIs i count t u (Ok (count + 1))
   item-given e n l k = record { same = give-length k; is = inr (sym h.is ∙ e, omega (arith, n), refl, k) }
 
 -- ---- all items
@@ -144,10 +145,10 @@ module _ {before now : List ℕ} {items i count : ℕ} (P : Passing before items
               apart (index_at + eights (numbers before) j) (λ z. omega arith) (λ z. omega arith) ∙ P.index j q v
           at-index j u v false e = let q : j ≡ i = omega (arith, ltb-false j i e) in rw q indexed-here
 
-    pub pass-more : {after : List ℕ} {c : ℕ} {r : Count} → table_room ≤ length before → ItemIs i count now after r → r ≡ Count.Done c
+    pub pass-more : {after : List ℕ} {c : ℕ} {r : Result ℕ Refusal} → table_room ≤ length before → ItemIs i count now after r → r ≡ Ok c
         → Passing before items (i + 1) c after
     pass-more {after} {c} {r} room h e =
-        let s : Step i count now after (Count.Done c) = rw e at h.is in
+        let s : Step i count now after (Ok c) = rw e at h.is in
         ⊎_elim (λ a. rw (a.1, a.2) (other a.0)) (λ a. rw a.2 (given a.0 a.1 a.3 room)) s
 
 -- ---- a document
@@ -258,17 +259,17 @@ module _ {before : List ℕ} {items : ℕ} {h : ℕ → ℕ} {lo hi : ℕ} {root
         (s.0, s.1, q ∙ column-kept P (i + 1) 6 (omega arith) (omega arith) ∙ sym place)
 
 module _ {before now : List ℕ} {items i count : ℕ} (P : Passing before items i count now) (few : items ≤ capacity) where
-  pub pass-done : items ≤ i → NumberIs before items now (Count.Done count)
+  pub pass-done : items ≤ i → NumberIs before items now (Ok count)
   pass-done l =
       let e : i ≡ items = omega (arith, P.to) in
       let R : Passing before items items count now = rw e at P in
       record { same = P.same; is = λ root h lo hi X. all-numbered X R few }
 
-  pub pass-excess : {after : List ℕ} {p : DocAt} {r : Count} → i < items → ItemIs i count now after r → r ≡ Count.Excess p
-      → NumberIs before items after (Count.Excess p)
-  pass-excess {after} {p} {r} l h e =
-      let s : Step i count now after (Count.Excess p) = rw e at h.is in
-      record { same = h.same ∙ P.same; is = λ root t lo hi X. one-too-many X P few l s.0 s.1 s.2 }
+  pub pass-excess : {after : List ℕ} {d : Refusal} {r : Result ℕ Refusal} → i < items → ItemIs i count now after r → r ≡ Err d
+      → NumberIs before items after (Err d)
+  pass-excess {after} {d} {r} l h e =
+      let s : Step i count now after (Err d) = rw e at h.is in
+      record { same = h.same ∙ P.same; is = λ root t lo hi X. let u = one-too-many X P few l s.0 s.1 s.3 in (u.0, u.1, s.2, u.2) }
 
 pub ruleset gives = give-both
 

@@ -1,6 +1,6 @@
 -- What the pass over the items says of a document. The items stand from 0 on, up to the table's capacity; the index from number to item
 -- stands behind them.
-use Rattle.std.specs.Prelude.{◌≡◌, ℕ, suc, ◌+◌, ◌*◌, ◌≤◌, ◌<◌, List, [], ◌∷◌, ◌⊎◌, length, set}
+use Rattle.std.specs.Prelude.{Result, Ok, Err, ◌≡◌, ℕ, suc, ◌+◌, ◌*◌, ◌≤◌, ◌<◌, List, [], ◌∷◌, ◌⊎◌, length, set}
 use Rattle.std.proofs.Math.Option.{none, some}
 use Rattle.std.proofs.Math.ListN.{get_elem?}
 use Rattle.rules.specs.Sizes.{max_unresolved, max_path}
@@ -11,7 +11,7 @@ use Rattle.doc_items.specs.Room.{index_at}
 use Rattle.doc_items.specs.Holds.{NodeAt, PiecesAt}
 use Rattle.doc_items.specs.Joining.{Simples}
 use Rattle.doc_items.specs.Parts.{numbers}
-use Rattle.read_numbering.specs.declared.Count.{Count}
+use Rattle.text_chars.specs.declared.Refusal.{Refusal}
 
 -- ---- steps
 
@@ -20,14 +20,15 @@ pub record GiveIs (i number : ℕ) (before after : List ℕ) : Type 0 where
   pub is : after ≡ set (set before (width * i + 7) number) (index_at + number) i
 
 -- one item: left alone; or numbered; or one too many
-abbrev pub Step : (i count : ℕ) (before after : List ℕ) → Count → Type 0
-Step i count before after (Count.Done c) =
+abbrev pub Step : (i count : ℕ) (before after : List ℕ) → Result ℕ Refusal → Type 0
+Step i count before after (Ok c) =
     ((kind_at (numbers before) i ≡ unresolved_item → ⊥) × (c ≡ count) × (after ≡ before))
     ⊎ ((kind_at (numbers before) i ≡ unresolved_item) × (count < max_unresolved) × (c ≡ count + 1) × GiveIs i count before after)
-Step i count before after (Count.Excess p) =
-    (kind_at (numbers before) i ≡ unresolved_item) × (count ≡ max_unresolved) × (p.0 ≡ place_at (numbers before) (i + 1)) × (after ≡ before)
+Step i count before after (Err e) =
+    (kind_at (numbers before) i ≡ unresolved_item) × (count ≡ max_unresolved) × (e.number ≡ 8) × (e.place.0 ≡ place_at (numbers before) (i + 1))
+    × (after ≡ before)
 
-pub record ItemIs (i count : ℕ) (before after : List ℕ) (r : Count) : Type 0 where
+pub record ItemIs (i count : ℕ) (before after : List ℕ) (r : Result ℕ Refusal) : Type 0 where
   pub same : length after ≡ length before
   pub is : Step i count before after r
 
@@ -83,11 +84,11 @@ module _ (after : List ℕ) (items : ℕ) (h : ℕ → ℕ) (lo hi : ℕ) where
     pub indexed : Indexed 0 (unresolved_in root)
     pub whole : size_at (numbers after) 0 ≡ items
 
-  abbrev pub CountIs : Count → Root → Type 0
-  CountIs (Count.Done c) root = WithNumbers c root
-  CountIs (Count.Excess p) root = (u : Unresolved) × (get_elem? (unresolved_in root) max_unresolved ≡ some u) × (p.0 ≡ u.place)
+  abbrev pub CountIs : Result ℕ Refusal → Root → Type 0
+  CountIs (Ok c) root = WithNumbers c root
+  CountIs (Err e) root = (u : Unresolved) × (get_elem? (unresolved_in root) max_unresolved ≡ some u) × (e.number ≡ 8) × (e.place.0 ≡ u.place)
 
-pub record NumberIs (before : List ℕ) (items : ℕ) (after : List ℕ) (r : Count) : Type 0 where
+pub record NumberIs (before : List ℕ) (items : ℕ) (after : List ℕ) (r : Result ℕ Refusal) : Type 0 where
   pub same : length after ≡ length before
   pub is : (root : Root) (h : ℕ → ℕ) (lo hi : ℕ) → WithoutNumbers before items h lo hi root
       → CountIs after items h lo hi r (number_root root)

@@ -9,18 +9,9 @@ ghost use Rattle.rules.specs.Sizes.{max_unresolved};
 ghost use Rattle.doc_items.specs.Room.{number_bound, capacity, table_room};
 ghost use Rattle.read_numbering.specs.Clauses.{GiveIs, ItemIs, NumberIs};
 
-use codes::limits;
+use codes::{limits, refusals};
 use doc_items::{COLUMN_NUMBER, COLUMN_PLACE, WIDTH};
-use text_chars::DocAt;
-
-/// The unresolved values of a document.
-#[derive(Clone, Copy)]
-pub enum Count {
-    /// How many there are. Each has its number.
-    Done { count: usize },
-    /// There are too many: the place of the first one over the limit.
-    Excess { place: DocAt },
-}
+use text_chars::{DocAt, Refusal};
 
 // A number that fits.
 fn put(table: &mut [u16], at: usize, x: usize)
@@ -40,7 +31,7 @@ fn give(table: &mut [u16], i: usize, number: usize)
 }
 
 // Numbers an item, if it is that of an unresolved value.
-fn number_item(table: &mut [u16], i: usize, count: usize) -> Count
+fn number_item(table: &mut [u16], i: usize, count: usize) -> Result<usize, Refusal>
     requires { (i < capacity) × (count ≤ max_unresolved) × (table_room ≤ length table.old) }
     ensures { ItemIs i count table.old table.new result }
 {
@@ -49,31 +40,26 @@ fn number_item(table: &mut [u16], i: usize, count: usize) -> Count
         if count == limits::UNRESOLVED {
             // The place of an unresolved value is that of its first piece, which is the next item.
             let place = doc_items::number_at(table, WIDTH * (i + 1) + COLUMN_PLACE);
-            return Count::Excess {
+            return Err(Refusal {
+                number: refusals::OVER_LIMIT,
                 place: DocAt(place),
-            };
+            });
         }
         give(table, i, count);
-        return Count::Done { count: count + 1 };
+        return Ok(count + 1);
     }
-    Count::Done { count }
+    Ok(count)
 }
 
-/// Numbers the unresolved values among the first so many items of the table and fills the index from number to item, behind the items.
-pub fn number_items(table: &mut [u16], items: usize) -> Count
+/// How many unresolved values are among the first so many items of the table. Each gets its number, and the index behind the items leads
+/// from number to item. The first one over the limit is refused.
+pub fn number_items(table: &mut [u16], items: usize) -> Result<usize, Refusal>
     requires { (items ≤ capacity) × (table_room ≤ length table.old) }
     ensures { NumberIs table.old items table.new result }
 {
     let mut count = 0;
     for i in 0..items {
-        match number_item(table, i, count) {
-            Count::Excess { place } => {
-                return Count::Excess { place };
-            }
-            Count::Done { count: next } => {
-                count = next;
-            }
-        }
+        count = number_item(table, i, count)?;
     }
-    Count::Done { count }
+    Ok(count)
 }
