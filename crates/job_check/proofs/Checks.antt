@@ -5,6 +5,7 @@ use mathlib.Core.List.{List}
 use Prim.Native.Nat.{ℕ, ◌≤◌}
 use native.Mathlib.Omega.{arith}
 use lib.ListN.{length}
+use Rattle.std.specs.Prelude.{Result, Err}
 use Rattle.answers.specs.Theory.Sound.{clash}
 use Rattle.rules.specs.Sizes.{max_room}
 use Rattle.rules.specs.Refusals.{Refusal, number_of, place_of}
@@ -15,6 +16,8 @@ use Rattle.theory.specs.Heights.{setting-height}
 use Rattle.theory.specs.JobRefusals.{Bounds, bad, good, bounds, lent-short}
 use Rattle.theory.specs.ReadingEnds.{inputs_end}
 use Rattle.text_chars.specs.declared.DocAt.{DocAt}
+use Rattle.text_chars.specs.declared.Refusal.{Refusal as Refused}
+use Rattle.text_chars.specs.Cursor.{refusal}
 use Rattle.text_environment.specs.Answers.{accepted-is}
 use Rattle.read_documents.specs.declared.Reading.{Reading}
 use Rattle.read_laws.specs.Listing.{listed-as-read}
@@ -23,7 +26,6 @@ use Rattle.eval_writer.specs.Copies.Contracts.{most_bytes}
 use Rattle.eval_stack.specs.Model.{Work}
 use Rattle.eval_state.specs.Memories.{job_table, job_bytes}
 use Rattle.job_results.specs.Clauses.{CheckIs}
-use Rattle.job_results.specs.declared.Verdict.{Verdict}
 use Rattle.job_inputs.specs.Clauses.{Ready, TaskCase, TaskIs}
 use Rattle.job_check.specs.Trails.Contracts.{Known, SheetAsked, SheetIs}
 use Rattle.job_check.specs.Clauses.{parts_fit, PartsFit}
@@ -46,12 +48,14 @@ module _ {s e trail table text T B T₁ B₁ : List ℕ} {fit : Bool} {r : Readi
   abbrev case-so : {q : Reading} → r ≡ q → TaskCase fit s e T₁ B₁ q
   case-so z = subst (λ (q : Reading). TaskCase fit s e T₁ B₁ q) z K.is
 
-  pub check-refused : {number : ℕ} {place : DocAt} → r ≡ Reading.Refused number place → CheckIs s e trail table text (Verdict.Refused number place)
+  pub check-refused : {number : ℕ} {place : DocAt} → r ≡ Reading.Refused number place → CheckIs s e trail table text (Err (refusal number place))
   check-refused {number} {place} z =
       let (x, h, n, p) = case-so z in
       record {
         is = refused-so s e trail table text number place.0 x (ap (λ (b : Bool). inputs b s e) (sym F.is) ∙ h) n p;
-        refusal = λ m q y. let k : number ≡ m = cc (y) in omega (arith, inputs_end fit s e x h, n, k);
+        refusal = λ q y.
+            let k : refusal number place ≡ q = cc (y) in
+            let m : number ≡ q.number = ap (λ (r : Refused). r.number) k in omega (arith, inputs_end fit s e x h, n, m);
       }
 
   module _ {items count : ℕ} (z : r ≡ Reading.Done items count) where
@@ -91,7 +95,7 @@ module _ {s e trail table text T B T₁ B₁ : List ℕ} {fit : Bool} {r : Readi
       environment = ready.variables.2;
     }
 
-    pub check-is : {v : Verdict} → SheetIs e count trail table text T₁ B₁ v → CheckIs s e trail table text v
+    pub check-is : {v : Result (Unit {0}) Refused} → SheetIs e count trail table text T₁ B₁ v → CheckIs s e trail table text v
     unfolding check_job
     check-is {v} P =
         let h : inputs (parts_fit trail table text) s e ≡ valid x = ap (λ (b : Bool). inputs b s e) (sym F.is) ∙ ready.read in

@@ -1,5 +1,5 @@
 -- The job resolve: one law for each return, and what its callees ask.
-use Rattle.std.specs.Prelude.{◌≡◌, Bool, List, ◌++◌, ℕ, ◌≤◌, leb, length, take, drop}
+use Rattle.std.specs.Prelude.{◌≡◌, Bool, List, ◌++◌, ℕ, ◌≤◌, leb, length, take, drop, Result as Returned, Err}
 use Rattle.std.proofs.Math.Path.{refl, sym, ap, subst}
 use Rattle.std.proofs.Common.{◌∙◌, append_assoc, arith, length-take-le}
 use Rattle.std.proofs.Math.Seq.{length_front}
@@ -8,6 +8,8 @@ use Rattle.rules.specs.Refusals.{Refusal, number_of, place_of}
 use Rattle.rules.specs.Documents.{Setting, Input, valid, refused, inputs}
 use Rattle.rules.specs.Jobs.{Result, Resolved, refused_with, room_of, resolved, located, resolve_job, buffers_of}
 use Rattle.text_chars.specs.declared.DocAt.{DocAt}
+use Rattle.text_chars.specs.declared.Refusal.{Refusal as Refused}
+use Rattle.text_chars.specs.Cursor.{refusal}
 use Rattle.read_documents.specs.Clauses.{InputRefuses}
 use Rattle.read_documents.specs.declared.Reading.{Reading}
 use Rattle.eval_state.specs.Memories.{job_bytes}
@@ -85,7 +87,7 @@ module _ (s e : List ℕ) (budget : ℕ) (b c x : List ℕ) where
       ap (resolved budget (room_of (length b)) (room_of (length c)) (room_of (length x))) (ap (λ (t : Bool). inputs t s e) (sym f) ∙ q)
 
   -- buffers that begin with what the rules hand back, cleared behind it
-  ended : {b' c' x' b'' c'' x'' : List ℕ} {r : Resolution} → HandedBack result b' c' x' r
+  ended : {b' c' x' b'' c'' x'' : List ℕ} {r : Returned Resolution Refused} → HandedBack result b' c' x' r
       → length b' ≡ length b → length c' ≡ length c → length x' ≡ length x → FinishedIs r b' c' x' b'' c'' x''
       → ResolveIs s e budget b c x b'' c'' x'' r
   ended {b'} {c'} {x'} h i j k F = record {
@@ -98,12 +100,12 @@ module _ (s e : List ℕ) (budget : ℕ) (b c x : List ℕ) where
 
   module _ {fits : Bool} (f : fits ≡ leb budget max_budget) {T B T' B' : List ℕ} {q : Reading} (W : TaskIs fits s e T B T' B' q) where
     pub resolve-refused : {number : ℕ} {place : DocAt} {b'' c'' x'' : List ℕ} → q ≡ Reading.Refused number place
-        → FinishedIs (Resolution.Refused number place) b c x b'' c'' x'' → ResolveIs s e budget b c x b'' c'' x'' (Resolution.Refused number place)
+        → FinishedIs (Err (refusal number place)) b c x b'' c'' x'' → ResolveIs s e budget b c x b'' c'' x'' (Err (refusal number place))
     unfolding refused_with resolved
     resolve-refused {number} {place} z F =
         let h : InputRefuses (inputs fits s e) number place = rw z at W.is in
         let y : Refusal = h.0 in
-        ended (subst (λ (R : Result). HandedBack R b c x (Resolution.Refused number place)) (sym (result-of fits f (refused y) h.1))
+        ended (subst (λ (R : Result). HandedBack R b c x (Err (refusal number place))) (sym (result-of fits f (refused y) h.1))
         (record {
           told = told (number_of y) (place_of y) h.2 h.3;
           holding = record {
@@ -115,7 +117,7 @@ module _ (s e : List ℕ) (budget : ℕ) (b c x : List ℕ) where
         refl refl refl F
       where
         told : (m p : ℕ) → number ≡ m → place.0 ≡ p
-            → resolution_told (Resolution.Refused number place) ≡ record { number = m; place = p; count = 0; trail = 0; table = 0; text = 0 }
+            → resolution_told (Err (refusal number place)) ≡ record { number = m; place = p; count = 0; trail = 0; table = 0; text = 0 }
         told m p i j = rw (i, j)
 
     module _ {items unresolved : ℕ} (z : q ≡ Reading.Done items unresolved) (l : length B ≡ job_bytes) {i k : ℕ} (o : i ≡ room_of (length b))
@@ -124,7 +126,7 @@ module _ (s e : List ℕ) (budget : ℕ) (b c x : List ℕ) where
       asked = resolution-asked s e budget b x f W z l o u
 
       -- the task is that of the rooms
-      done : {j : ℕ} → j ≡ room_of (length c) → {b' c' x' : List ℕ} {r : Resolution}
+      done : {j : ℕ} → j ≡ room_of (length c) → {b' c' x' : List ℕ} {r : Returned Resolution Refused}
           → ResolutionIs T' B' e budget (take i b) b' (take j c) c' (take k x) x' r → HandedBack result b' c' x' r
       unfolding resolution-asked resolved
       done {j} v {b'} {c'} {x'} {r} R =
@@ -132,7 +134,7 @@ module _ (s e : List ℕ) (budget : ℕ) (b c x : List ℕ) where
           subst (λ (R : Result). HandedBack R b' c' x' r) (sym (result-of fits f (valid asked.setting) asked.ready.read))
           (rw (sym (part_length b i o), sym (part_length c j v), sym x) (R.is asked))
 
-      pub resolve-done : {j : ℕ} {b' c' x' b'' c'' x'' : List ℕ} {r : Resolution} → j ≡ room_of (length c)
+      pub resolve-done : {j : ℕ} {b' c' x' b'' c'' x'' : List ℕ} {r : Returned Resolution Refused} → j ≡ room_of (length c)
           → ResolutionIs T' B' e budget (take i b) b' (take j c) c' (take k x) x' r
           → length b' ≡ length (take i b) → length c' ≡ length (take j c) → length x' ≡ length (take k x)
           → FinishedIs r (b' ++ drop i b) (c' ++ drop j c) (x' ++ drop k x) b'' c'' x'' → ResolveIs s e budget b c x b'' c'' x'' r
