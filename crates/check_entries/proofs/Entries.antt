@@ -7,6 +7,7 @@ use mathlib.Core.Option.{none, some}
 use native.Mathlib.Omega.{arith}
 use lib.ListN.{length, take, drop, length-drop}
 use lib.Seq.{length-take-le}
+use Rattle.std.specs.Prelude.{Some, None}
 use Rattle.answers.specs.Ask.{Trail, lookup, value, run}
 use Rattle.answers.specs.Theory.Sound.{clash}
 use Rattle.rules.specs.Bytes.{Text}
@@ -27,7 +28,6 @@ use Rattle.eval_store.specs.Compare.Contracts.{EntryAsked, SameEntryIs, SameUnde
 use Rattle.eval_state.specs.Clauses as kept
 use Rattle.check_entries.specs.Clauses.{Right, Open, AnswerAsked, AnswerIs, UndefinedAsked, UndefinedIs}
 use Rattle.check_entries.specs.declared.Reached.{Reached}
-use Rattle.check_entries.specs.declared.Checked.{Checked}
 
 abbrev reached : ℕ → ℕ → Reached
 reached u t = record { used = record { 0 = u }; text = record { 0 = t } }
@@ -105,14 +105,14 @@ module _ {T B room : List ℕ} {o : Out} {b : ℕ} {at : Reached} {trail text : 
       differs e E = clash (cc (there-same (subst (λ (n : ℕ). EntryAt trail text S n (some (named key v))) (sym N.is) E)))
 
   -- the trail, or the text part, ends before it does
-  pub answer-over : length trail < u + 3 + o.rec.0 → AnswerIs room o b at trail text T T B B Checked.Wrong
+  pub answer-over : length trail < u + 3 + o.rec.0 → AnswerIs room o b at trail text T T B B None
   answer-over l = record {
     is = λ x key items S v R N runs F table.
         check-over R.check table (more R N runs F) (some (named key v)) (runs-next R N runs F) (omega (arith, R.used, entry-size R N runs F));
     further = tt;
   }
 
-  pub answer-text-over : length text < t + o.text.0 → AnswerIs room o b at trail text T T B B Checked.Wrong
+  pub answer-text-over : length text < t + o.text.0 → AnswerIs room o b at trail text T T B B None
   answer-text-over l = record {
     is = λ x key items S v R N runs F table.
         check-text-over R.check table (more R N runs F) (some (named key v)) (runs-next R N runs F) (omega (arith, R.text-used, text-size R N runs F));
@@ -145,7 +145,7 @@ module _ {T B room : List ℕ} {o : Out} {b : ℕ} {at : Reached} {trail text : 
     }
 
     module _ {r : Bool} (K : SameEntryIs room o b t (part u trail) text r) where
-      pub answer-differs : r ≡ false → AnswerIs room o b at trail text T T B B Checked.Wrong
+      pub answer-differs : r ≡ false → AnswerIs room o b at trail text T T B B None
       answer-differs e = record {
         is = λ x key items S v R N runs F table.
             check-differs R.check table (more R N runs F) (some (named key v)) (runs-next R N runs F) (differs R N runs F K e);
@@ -153,7 +153,7 @@ module _ {T B room : List ℕ} {o : Out} {b : ℕ} {at : Reached} {trail text : 
       }
 
       pub answer-right : {T' B' : List ℕ} → r ≡ true → kept.AnswerIs room o b u t T T' B B'
-          → AnswerIs room o b at trail text T T' B B' (Checked.On (reached (u + 3 + o.rec.0) (t + o.text.0)))
+          → AnswerIs room o b at trail text T T' B B' (Some (reached (u + 3 + o.rec.0) (t + o.text.0)))
       unfolding trail_size trail_text_size
       answer-right {T'} {B'} e Q = record {
         is = λ x key items S v R N runs F. (
@@ -196,7 +196,7 @@ module _ {T : List ℕ} {b : ℕ} {at : Reached} {trail : List ℕ} (A : Undefin
       unfolding entry_size
       there-none E = (K.same (trail_text_size S)).1 (ap (take 3) (part-is from trail) ∙ ap (λ (n : ℕ). take 3 (drop n trail)) R.used ∙ E.records)
 
-    pub undefined-differs : r ≡ false → UndefinedIs b at trail T T Checked.Wrong
+    pub undefined-differs : r ≡ false → UndefinedIs b at trail T T None
     undefined-differs e = record {
       is = λ x key items B text S R N runs table.
           check-differs R.check table (omega (arith, R.used, A.entry)) none
@@ -206,7 +206,7 @@ module _ {T : List ℕ} {b : ℕ} {at : Reached} {trail : List ℕ} (A : Undefin
     }
 
     pub undefined-right : {T' : List ℕ} → r ≡ true → kept.UndefinedIs b T T'
-        → UndefinedIs b at trail T T' (Checked.On (reached (from + 3) at.text.0))
+        → UndefinedIs b at trail T T' (Some (reached (from + 3) at.text.0))
     unfolding trail_size trail_text_size entry_size answer_text_size
     undefined-right {T'} e Q = record {
       is = λ x key items B text S R N runs. (

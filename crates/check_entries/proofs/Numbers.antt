@@ -5,6 +5,7 @@ use mathlib.Core.List.{List}
 use mathlib.Core.Option.{Option, none, some}
 use native.Mathlib.Omega.{arith}
 use lib.ListN.{length, get_or}
+use Rattle.std.specs.Prelude.{Some, None}
 use Rattle.answers.specs.Ask.{Trail, lookup}
 use Rattle.rules.specs.Values.{Answer}
 use Rattle.rules.specs.Sheet.{pair_at, trail_size}
@@ -16,7 +17,6 @@ use Rattle.eval_memory.specs.Finished.{Memory}
 use Rattle.eval_state.specs.Memories.{answers_of}
 use Rattle.eval_state.specs.State.{AnswerIn}
 use Rattle.check_entries.specs.Clauses.{NextAsked, NextIs}
-use Rattle.check_entries.specs.declared.Next.{Next}
 
 -- ---- what the table has of an answer
 
@@ -36,7 +36,7 @@ module _ {trail : List ℕ} {u count : ℕ} (A : NextAsked trail u count) where
   pub number-lent : Lent trail (u + 1)
   number-lent = (A.short, omega (arith, A.inside, A.short))
 
-  pub next-short : {T : List ℕ} → length trail < u + 3 → NextIs T trail u count Next.Wrong
+  pub next-short : {T : List ℕ} → length trail < u + 3 → NextIs T trail u count None
   next-short l = record {
     is = λ x key items B text S H C e m n table. check-short C table (omega arith) (omega arith);
     inside = tt;
@@ -46,7 +46,7 @@ module _ {trail : List ℕ} {u count : ℕ} (A : NextAsked trail u count) where
     number_is : (S : Trail Answer) → u ≡ trail_size S → b ≡ next_number trail S
     number_is S e = P.is ∙ ap (λ (n : ℕ). pair_at trail (n + 1)) e
 
-    pub next_past : {T : List ℕ} → count ≤ b → NextIs T trail u count Next.Wrong
+    pub next_past : {T : List ℕ} → count ≤ b → NextIs T trail u count None
     next_past l = record {
       is = λ x key items B text S H C e m n table.
           let q : b ≡ next_number trail S = number_is S e in
@@ -55,7 +55,7 @@ module _ {trail : List ℕ} {u count : ℕ} (A : NextAsked trail u count) where
     }
 
     module _ {T : List ℕ} (l : b < count) {a : ℕ} (R : ReadIs T (answers_at + b) a) where
-      pub next-answered : (a ≡ 0 → ⊥) → NextIs T trail u count Next.Wrong
+      pub next-answered : (a ≡ 0 → ⊥) → NextIs T trail u count None
       next-answered f = record {
         is = λ x key items B text S H C e m n table.
             let q : b ≡ next_number trail S = number_is S e in
@@ -65,7 +65,7 @@ module _ {trail : List ℕ} {u count : ℕ} (A : NextAsked trail u count) where
         inside = tt;
       }
 
-      pub next-number : u + 3 ≤ length trail → a ≡ 0 → NextIs T trail u count (Next.Number b)
+      pub next-number : u + 3 ≤ length trail → a ≡ 0 → NextIs T trail u count (Some b)
       next-number k z = record {
         is = λ x key items B text S H C e m n. record {
           is = number_is S e;

@@ -1,5 +1,5 @@
 -- What the check of an entry promises.
-use Rattle.std.specs.Prelude.{◌≡◌, ℕ, ◌+◌, ◌≤◌, ◌<◌, false, List, length}
+use Rattle.std.specs.Prelude.{◌≡◌, ℕ, ◌+◌, ◌≤◌, ◌<◌, false, List, length, Option as Maybe, Some, None}
 use Rattle.std.proofs.Math.Option.{none, some}
 use Rattle.answers.specs.Ask.{Trail, lookup, value, run}
 use Rattle.rules.specs.Bytes.{Text}
@@ -16,8 +16,6 @@ use Rattle.eval_state.specs.Memories.{job_table, job_bytes}
 use Rattle.eval_state.specs.State.{State}
 use Rattle.eval_state.specs.Clauses.{Finished}
 use Rattle.check_entries.specs.declared.Reached.{Reached}
-use Rattle.check_entries.specs.declared.Next.{Next}
-use Rattle.check_entries.specs.declared.Checked.{Checked}
 
 -- ---- how far a sheet was found right
 
@@ -32,14 +30,14 @@ pub record Right (x : Setting) (key : ℕ → Text) (items : ℕ) (T B trail tex
 abbrev pub Refuted : Setting → (trail text : List ℕ) → Type 0
 Refuted x trail text = (table : List ℕ) → accepted x trail table text ≡ false
 
-abbrev pub CheckedBy : Setting → (ℕ → Text) → ℕ → (T B trail text : List ℕ) → Checked → Type 0
-CheckedBy x key items T B trail text (Checked.On at) = (S : Trail Answer) × Right x key items T B trail text at S
-CheckedBy x key items T B trail text Checked.Wrong = Refuted x trail text
+abbrev pub CheckedBy : Setting → (ℕ → Text) → ℕ → (T B trail text : List ℕ) → Maybe Reached → Type 0
+CheckedBy x key items T B trail text (Some at) = (S : Trail Answer) × Right x key items T B trail text at S
+CheckedBy x key items T B trail text None = Refuted x trail text
 
 -- what is reached is inside the parts, and further by an entry
-abbrev pub Further : (trail text : List ℕ) → Reached → Checked → Type 0
-Further trail text at (Checked.On to) = (at.used.0 + 3 ≤ to.used.0) × (to.used.0 ≤ length trail) × (to.text.0 ≤ length text)
-Further trail text at Checked.Wrong = Unit {0}
+abbrev pub Further : (trail text : List ℕ) → Reached → Maybe Reached → Type 0
+Further trail text at (Some to) = (at.used.0 + 3 ≤ to.used.0) × (to.used.0 ≤ length trail) × (to.text.0 ≤ length text)
+Further trail text at None = Unit {0}
 
 -- ---- the next number
 
@@ -54,16 +52,16 @@ pub record Open (x : Setting) (trail : List ℕ) (S : Trail Answer) (b : ℕ) : 
   pub new : lookup S b ≡ none
   pub inside : b < count_of x
 
-abbrev pub NextBy : Setting → (trail text : List ℕ) → Trail Answer → Next → Type 0
-NextBy x trail text S (Next.Number b) = Open x trail S b
-NextBy x trail text S Next.Wrong = Refuted x trail text
+abbrev pub NextBy : Setting → (trail text : List ℕ) → Trail Answer → Maybe ℕ → Type 0
+NextBy x trail text S (Some b) = Open x trail S b
+NextBy x trail text S None = Refuted x trail text
 
 -- it is one of the document's, and three bytes are there
-abbrev pub NextIn : (trail : List ℕ) (used count : ℕ) → Next → Type 0
-NextIn trail used count (Next.Number b) = (b < count) × (used + 3 ≤ length trail)
-NextIn trail used count Next.Wrong = Unit {0}
+abbrev pub NextIn : (trail : List ℕ) (used count : ℕ) → Maybe ℕ → Type 0
+NextIn trail used count (Some b) = (b < count) × (used + 3 ≤ length trail)
+NextIn trail used count None = Unit {0}
 
-pub record NextIs (T trail : List ℕ) (used count : ℕ) (r : Next) : Type 0 where
+pub record NextIs (T trail : List ℕ) (used count : ℕ) (r : Maybe ℕ) : Type 0 where
   pub is : (x : Setting) (key : ℕ → Text) (items : ℕ) (B text : List ℕ) (S : Trail Answer) → State x key items T B S → CheckAt x trail text S
       → used ≡ trail_size S → used < length trail → count ≡ count_of x → NextBy x trail text S r
   pub inside : NextIn trail used count r
@@ -80,7 +78,7 @@ pub record AnswerAsked (T B room : List ℕ) (o : Out) (b : ℕ) (at : Reached) 
   pub table : job_table ≤ length T
   pub bytes : job_bytes ≤ length B
 
-pub record AnswerIs (room : List ℕ) (o : Out) (b : ℕ) (at : Reached) (trail text T T' B B' : List ℕ) (r : Checked) : Type 0 where
+pub record AnswerIs (room : List ℕ) (o : Out) (b : ℕ) (at : Reached) (trail text T T' B B' : List ℕ) (r : Maybe Reached) : Type 0 where
   pub is : (x : Setting) (key : ℕ → Text) (items : ℕ) (S : Trail Answer) (v : Held) → Right x key items T B trail text at S → Open x trail S b
       → run (lookup S) (rule_of x b) ≡ value (some (named key v)) → Finished key items T room o v → CheckedBy x key items T' B' trail text r
   pub further : Further trail text at r
@@ -93,7 +91,7 @@ pub record UndefinedAsked (T : List ℕ) (b : ℕ) (at : Reached) (trail : List 
   pub short : length trail ≤ max_room
   pub table : job_table ≤ length T
 
-pub record UndefinedIs (b : ℕ) (at : Reached) (trail T T' : List ℕ) (r : Checked) : Type 0 where
+pub record UndefinedIs (b : ℕ) (at : Reached) (trail T T' : List ℕ) (r : Maybe Reached) : Type 0 where
   pub is : (x : Setting) (key : ℕ → Text) (items : ℕ) (B text : List ℕ) (S : Trail Answer) → Right x key items T B trail text at S → Open x trail S b
       → run (lookup S) (rule_of x b) ≡ value none → CheckedBy x key items T' B trail text r
   pub further : (text : List ℕ) → at.text.0 ≤ length text → Further trail text at r

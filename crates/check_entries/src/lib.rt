@@ -20,47 +20,31 @@ pub struct Reached {
     pub text: TextAt,
 }
 
-/// The number of the next entry.
-#[derive(Clone, Copy)]
-pub enum Next {
-    /// It is one of the document's, and has no answer yet.
-    Number(usize),
-    /// No right entry begins there.
-    Wrong,
-}
-
-/// What an entry comes to.
-#[derive(Clone, Copy)]
-pub enum Checked {
-    /// It is right, and kept; so far the sheet is right then.
-    On(Reached),
-    /// It is not what the rules give.
-    Wrong,
-}
-
 // Where an entry has its number.
 const NUMBER: usize = 1;
 
-/// The number of the entry that begins behind those so far, in a document of so many unresolved values.
-pub fn next_number(table: &[u16], trail: &[u8], used: RecAt, count: usize) -> Next
+/// The number of the entry that begins behind those so far, in a document of so many unresolved values: it is one of them, and has no answer
+/// yet, or no right entry begins there.
+pub fn next_number(table: &[u16], trail: &[u8], used: RecAt, count: usize) -> Option<usize>
     requires { NextAsked trail.now used.0 count }
     ensures { NextIs table.now trail.now used.0 count result }
 {
     let u = used.0;
     if trail.len() < u + ENTRY {
-        return Next::Wrong;
+        return None;
     }
     let b = sheet_records::kinds::pair_at(trail, RecAt(u + NUMBER));
     if b < count {
         if doc_items::number_at(table, doc_items::ANSWERS + b) == 0 {
-            return Next::Number(b);
+            return Some(b);
         }
-        return Next::Wrong;
+        return None;
     }
-    Next::Wrong
+    None
 }
 
-/// Holds the answer of question b, which is in the room, against the entry that begins behind those so far, and keeps it if it is there.
+/// Holds the answer of question b, which is in the room, against the entry that begins behind those so far, and keeps it if it is there: so far
+/// the sheet is right then.
 pub fn check_answer(
     table: &mut [u16],
     bytes: &mut [u8],
@@ -70,7 +54,7 @@ pub fn check_answer(
     at: Reached,
     trail: &[u8],
     text: &[u8],
-) -> Checked
+) -> Option<Reached>
     requires { AnswerAsked table.old bytes.old room.now o b at trail.now text.now }
     ensures { AnswerIs room.now o b at trail.now text.now
         table.old table.new bytes.old bytes.new result }
@@ -81,23 +65,23 @@ pub fn check_answer(
     let word = o.text;
     let u = used.0;
     if trail.len() < u + ENTRY + rec.0 {
-        return Checked::Wrong;
+        return None;
     }
     if text.len() < texts.0 + word.0 {
-        return Checked::Wrong;
+        return None;
     }
     if same_entry(room, o, b, texts, &trail[u..], text) {
         keep_answer(table, bytes, room, o, b, used, texts);
-        return Checked::On(Reached {
+        return Some(Reached {
             used: RecAt(u + ENTRY + rec.0),
             text: TextAt(texts.0 + word.0),
         });
     }
-    Checked::Wrong
+    None
 }
 
 /// The same of question b, which is undefined.
-pub fn check_undefined(table: &mut [u16], b: usize, at: Reached, trail: &[u8]) -> Checked
+pub fn check_undefined(table: &mut [u16], b: usize, at: Reached, trail: &[u8]) -> Option<Reached>
     requires { UndefinedAsked table.old b at trail.now }
     ensures { UndefinedIs b at trail.now table.old table.new result }
 {
@@ -106,10 +90,10 @@ pub fn check_undefined(table: &mut [u16], b: usize, at: Reached, trail: &[u8]) -
     let u = used.0;
     if same_undefined(b, &trail[u..]) {
         keep_undefined(table, b);
-        return Checked::On(Reached {
+        return Some(Reached {
             used: RecAt(u + ENTRY),
             text: texts,
         });
     }
-    Checked::Wrong
+    None
 }

@@ -6,6 +6,7 @@ use mathlib.Core.List.{List}
 use Prim.Native.Nat.{ℕ, ◌≤◌}
 use native.Mathlib.Omega.{arith}
 use lib.ListN.{length}
+use Rattle.std.specs.Prelude.{Result, Err}
 use Rattle.answers.specs.Theory.Sound.{clash}
 use Rattle.rules.specs.Sizes.{max_room}
 use Rattle.rules.specs.Refusals.{Refusal, number_of, place_of}
@@ -24,7 +25,6 @@ use Rattle.eval_writer.specs.Copies.Contracts.{most_bytes}
 use Rattle.eval_stack.specs.Model.{Work}
 use Rattle.eval_state.specs.Memories.{job_table, job_bytes}
 use Rattle.job_results.specs.Clauses.{CheckIs}
-use Rattle.job_results.specs.declared.Verdict.{Verdict}
 use Rattle.job_inputs.specs.Clauses.{Ready, TaskCase, TaskIs}
 use Rattle.job_check.specs.Trails.Contracts.{Known, SheetAsked, SheetIs}
 use Rattle.job_check.specs.Clauses.{parts_fit, PartsFit}
@@ -47,12 +47,14 @@ module _ {s e trail table text T B T₁ B₁ : List ℕ} {fit : Bool} {r : Resul
   abbrev case-so : {q : Result Reading Refused} → r ≡ q → TaskCase fit s e T₁ B₁ q
   case-so z = subst (λ (q : Result Reading Refused). TaskCase fit s e T₁ B₁ q) z K.is
 
-  pub check-refused : {d : Refused} → r ≡ Err d → CheckIs s e trail table text (Verdict.Refused d.number d.place)
+  pub check-refused : {d : Refused} → r ≡ Err d → CheckIs s e trail table text (Err d)
   check-refused {d} z =
       let (x, h, n, p) = case-so z in
       record {
         is = refused-so s e trail table text d.number d.place.0 x (ap (λ (b : Bool). inputs b s e) (sym F.is) ∙ h) n p;
-        refusal = λ m q y. let k : d.number ≡ m = cc (y) in omega (arith, inputs_end fit s e x h, n, k);
+        refusal = λ q y.
+            let k : d ≡ q = cc (y) in
+            let m : d.number ≡ q.number = ap (λ (r : Refused). r.number) k in omega (arith, inputs_end fit s e x h, n, m);
       }
 
   module _ {v : Reading} (z : r ≡ Ok v) where
@@ -92,7 +94,7 @@ module _ {s e trail table text T B T₁ B₁ : List ℕ} {fit : Bool} {r : Resul
       environment = ready.variables.2;
     }
 
-    pub check-is : {w : Verdict} → SheetIs e v.unresolved trail table text T₁ B₁ w → CheckIs s e trail table text w
+    pub check-is : {w : Result (Unit {0}) Refused} → SheetIs e v.unresolved trail table text T₁ B₁ w → CheckIs s e trail table text w
     unfolding check_job
     check-is {w} P =
         let h : inputs (parts_fit trail table text) s e ≡ valid x = ap (λ (b : Bool). inputs b s e) (sym F.is) ∙ ready.read in

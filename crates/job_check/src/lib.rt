@@ -10,7 +10,7 @@ ghost use Rattle.job_check.specs.Clauses.{PartsFit};
 use crate::trails::check_sheet;
 use codes::limits;
 use job_inputs::read_task;
-use job_results::Verdict;
+use text_chars::Refusal;
 
 // Whether no part of a sheet is over its bytes.
 fn parts_fit(trail: &[u8], table: &[u8], text: &[u8]) -> bool
@@ -35,7 +35,7 @@ pub fn check(
     trail: &[u8],
     table: &[u8],
     text: &[u8],
-) -> Verdict
+) -> Result<(), Refusal>
     ensures { CheckIs document.now environment.now trail.now table.now text.now result }
 {
     let mut numbers = [0u16; eval_state::TABLE];
@@ -44,10 +44,7 @@ pub fn check(
     let mut room = [0u8; limits::RECORDS + limits::TEXT];
     let fit = parts_fit(trail, table, text);
     match read_task(fit, document, environment, &mut numbers, &mut bytes) {
-        Err(e) => Verdict::Refused {
-            number: e.number,
-            place: e.place,
-        },
+        Err(e) => Err(e),
         Ok(read) => {
             check_sheet(
                 &mut numbers,

@@ -3,14 +3,13 @@
 // Computes: Checking (entries_from, accepted)
 ghost use Rattle.job_check.specs.Trails.Contracts.{CaseAsked, CaseIs, EntryAsked, EntryIs, TrailAsked, TrailIs, SheetAsked, SheetIs};
 
-use check_entries::{Checked, Next, Reached, check_answer, check_undefined, next_number};
+use check_entries::{Reached, check_answer, check_undefined, next_number};
 use codes::refusals;
 use eval_results::sizes::Outcome;
 use eval_state::item_of;
 use eval_unresolved::unresolved_value;
-use job_results::Verdict;
 use job_root::check_root;
-use text_chars::{DocAt, RecAt, TextAt};
+use text_chars::{DocAt, RecAt, Refusal, TextAt};
 
 // The outcome of question b held against its entry; a value of it is in the room.
 fn check_outcome(
@@ -22,19 +21,16 @@ fn check_outcome(
     at: Reached,
     trail: &[u8],
     text: &[u8],
-) -> Checked
+) -> Option<Reached>
     requires { CaseAsked table.old bytes.old room.now outcome b at trail.now text.now }
     ensures { CaseIs room.now outcome b at trail.now text.now
         table.old table.new bytes.old bytes.new result }
 {
     match outcome {
-        Outcome::Done(e) => {
-            let o = e.out;
-            check_answer(table, bytes, room, o, b, at, trail, text)
-        }
+        Outcome::Done(e) => { check_answer(table, bytes, room, e.out, b, at, trail, text) }
         Outcome::Undefined => check_undefined(table, b, at, trail),
-        Outcome::Needs(d) => Checked::Wrong,
-        Outcome::Refused { number, place } => Checked::Wrong,
+        Outcome::Needs(d) => None,
+        Outcome::Refused { number, place } => None,
     }
 }
 
@@ -49,20 +45,15 @@ fn check_entry(
     at: Reached,
     trail: &[u8],
     text: &[u8],
-) -> Checked
+) -> Option<Reached>
     requires { EntryAsked table.old bytes.old environment.now work.old room.old count at trail.now text.now }
     ensures { EntryIs environment.now count at trail.now text.now
         table.old table.new bytes.old bytes.new result }
 {
-    let used = at.used;
-    match next_number(table, trail, used, count) {
-        Next::Wrong => Checked::Wrong,
-        Next::Number(b) => {
-            let item = item_of(table, b);
-            let outcome = unresolved_value(table, bytes, environment, work, 0, room, item);
-            check_outcome(table, bytes, room, outcome, b, at, trail, text)
-        }
-    }
+    let b = next_number(table, trail, at.used, count)?;
+    let item = item_of(table, b);
+    let outcome = unresolved_value(table, bytes, environment, work, 0, room, item);
+    check_outcome(table, bytes, room, outcome, b, at, trail, text)
 }
 
 // All entries of a trail, in a document of so many unresolved values.
@@ -75,19 +66,17 @@ fn check_trail(
     count: usize,
     trail: &[u8],
     text: &[u8],
-) -> Checked
+) -> Option<Reached>
     requires { TrailAsked table.old bytes.old environment.now work.old room.old count trail.now text.now }
     ensures { TrailIs environment.now count trail.now text.now
         table.old table.new bytes.old bytes.new work.new room.new result }
 {
-    let mut used = 0;
-    let mut texts = 0;
-    while used < trail.len() {
-        let at = Reached {
-            used: RecAt(used),
-            text: TextAt(texts),
-        };
-        match check_entry(
+    let mut at = Reached {
+        used: RecAt(0),
+        text: TextAt(0),
+    };
+    while at.used.0 < trail.len() {
+        at = check_entry(
             table,
             bytes,
             environment,
@@ -97,22 +86,9 @@ fn check_trail(
             at,
             trail,
             text,
-        ) {
-            Checked::Wrong => {
-                return Checked::Wrong;
-            }
-            Checked::On(next) => {
-                let u = next.used;
-                let t = next.text;
-                used = u.0;
-                texts = t.0;
-            }
-        }
+        )?;
     }
-    Checked::On(Reached {
-        used: RecAt(used),
-        text: TextAt(texts),
-    })
+    Some(at)
 }
 
 /// A sheet against a document of so many unresolved values that stands in memory, with nothing answered yet.
@@ -126,22 +102,18 @@ pub fn check_sheet(
     trail: &[u8],
     table: &[u8],
     text: &[u8],
-) -> Verdict
+) -> Result<(), Refusal>
     requires { SheetAsked numbers.old bytes.old environment.now work.old room.old count trail.now text.now }
     ensures { SheetIs environment.now count trail.now table.now text.now
         numbers.old bytes.old result }
 {
-    match check_trail(numbers, bytes, environment, work, room, count, trail, text) {
-        Checked::Wrong => {}
-        Checked::On(at) => {
-            let texts = at.text;
-            if check_root(numbers, bytes, work, room, texts, table, text) {
-                return Verdict::Accepted;
-            }
+    if let Some(at) = check_trail(numbers, bytes, environment, work, room, count, trail, text) {
+        if check_root(numbers, bytes, work, room, at.text, table, text) {
+            return Ok(());
         }
     }
-    Verdict::Refused {
+    Err(Refusal {
         number: refusals::NOT_ACCEPTED,
         place: DocAt(0),
-    }
+    })
 }

@@ -42,7 +42,6 @@ use Rattle.text_lengths.specs.Micrometres.Contracts.{measured_of}
 use Rattle.sheet_paths.specs.Answers.{Found, part, job_of, part_of, refused-part}
 use Rattle.job_results.specs.Clauses.{ResolveIs, CheckIs}
 use Rattle.job_results.specs.declared.Resolution.{Resolution}
-use Rattle.job_results.specs.declared.Verdict.{Verdict}
 use Rattle.job_demands.specs.Runs as runs
 use Rattle.job_demands.specs.Runs.{Hands}
 
@@ -50,11 +49,11 @@ use Rattle.job_demands.specs.Runs.{Hands}
 abbrev pub FullSize : List ℕ → Type 0
 FullSize b = 32768 ≤ length b
 
-module _ {document environment : List ℕ} {budget : ℕ} {b c f b' c' f' : List ℕ} {r : Resolution}
+module _ {document environment : List ℕ} {budget : ℕ} {b c f b' c' f' : List ℕ} {r : Result Resolution Refusal}
     (run : ResolveIs document environment budget b c f b' c' f' r) where
   -- ---- demand 1: "A refused resolution leaves its three buffers all zero"
 
-  pub refused-leaves-zeros : {number : ℕ} {place : DocAt} → r ≡ Resolution.Refused number place
+  pub refused-leaves-zeros : {x : Refusal} → r ≡ Err x
       → (b' ≡ replicate (length b) 0) × (c' ≡ replicate (length c) 0) × (f' ≡ replicate (length f) 0)
   refused-leaves-zeros h =
       let all = (promises.refused-leaves-nothing document environment budget (length b) (length c) (length f) (runs.refused-refuses run h)).1 in
@@ -73,8 +72,8 @@ module _ {document environment : List ℕ} {budget : ℕ} {b c f b' c' f' : List
   -- ---- demand 2
 
   -- a refusal has a number of the job's list, and a place in the document, or its length
-  pub resolve-refusal : {number : ℕ} {place : DocAt} → r ≡ Resolution.Refused number place
-      → promises.OneOf resolve_numbers number × (document_of place.0 ≡ 0) × (offset_of place.0 ≤ length document)
+  pub resolve-refusal : {x : Refusal} → r ≡ Err x
+      → promises.OneOf resolve_numbers x.number × (document_of x.place.0 ≡ 0) × (offset_of x.place.0 ≤ length document)
   resolve-refusal h = (
     rw (runs.refused-number run h)
         (promises.resolve-numbers document environment budget (length b) (length c) (length f) (runs.refused-refuses run h)),
@@ -96,13 +95,13 @@ module _ {document environment : List ℕ} {budget : ℕ} {b c f b' c' f' : List
         (promises.resolved-is document environment budget (length b) (length c) (length f) (runs.hands-number run h))
 
     -- ---- demand 3, "What resolution hands back is accepted"
-    pub handed-back-accepted : {v : Verdict} → CheckIs document environment trail table text v → v ≡ Verdict.Accepted
+    pub handed-back-accepted : {v : Result (Unit {0}) Refusal} → CheckIs document environment trail table text v → v ≡ Ok tt
     handed-back-accepted check = runs.approval-yes check (runs.hands-approval run h)
 
     -- "So is every reordering": if each unresolved value stands after those that it needs, and only then
     pub reordered-accepted : {trail₁ table₁ text₁ : List ℕ} (p : Reordering trail table text trail₁ table₁ text₁)
-        → {v : Verdict} → CheckIs document environment trail₁ table₁ text₁ v
-        → InOrder document environment p.entries' ↔ (v ≡ Verdict.Accepted)
+        → {v : Result (Unit {0}) Refusal} → CheckIs document environment trail₁ table₁ text₁ v
+        → InOrder document environment p.entries' ↔ (v ≡ Ok tt)
     reordered-accepted {trail₁} {table₁} {text₁} p check = (
       λ o. runs.approval-yes check
           (reordering-approval document environment trail table text trail₁ table₁ text₁ p (runs.hands-approval run h) o),
@@ -115,13 +114,13 @@ module _ {document environment : List ℕ} {budget : ℕ} {b c f b' c' f' : List
         rw (runs.hands-count run h, runs.hands-trail run h, runs.hands-text run h)
         (demands.count-is document environment budget (length b) (length c) (length f) (runs.hands-number run h))
 
-module _ {document environment : List ℕ} {b c f b' c' f' : List ℕ} {r : Resolution} (run : ResolveIs document environment 256 b c f b' c' f' r)
+module _ {document environment : List ℕ} {b c f b' c' f' : List ℕ} {r : Result Resolution Refusal} (run : ResolveIs document environment 256 b c f b' c' f' r)
     (full : FullSize b × FullSize c × FullSize f) where
   in-full : J.resolve_job document environment 256 (length b) (length c) (length f) ≡ J.resolve_job document environment 256 32768 32768 32768
   in-full = demands.buffers-full document environment 256 (length b) (length c) (length f) full.0 full.1 full.2
 
   -- "Accepted means resolvable, with the same meaning"
-  pub accepted-resolves : {trail table text : List ℕ} → CheckIs document environment trail table text Verdict.Accepted
+  pub accepted-resolves : {trail table text : List ℕ} → CheckIs document environment trail table text (Ok tt)
       → (trail₁ : List ℕ) × (table₁ : List ℕ) × (text₁ : List ℕ) × Hands r b' c' f' trail₁ table₁ text₁ × MeanTheSame table₁ text₁ table text
   accepted-resolves {trail} {table} {text} check =
       let y = runs.yes-approval check refl in
@@ -129,34 +128,34 @@ module _ {document environment : List ℕ} {b c f b' c' f' : List ℕ} {r : Reso
       (_, _, _, runs.run-hands run z, rw in-full (approval-means document environment trail table text y))
 
   -- "Refusal exactly"
-  pub refused-exactly : ((number : ℕ) × (place : DocAt) × (r ≡ Resolution.Refused number place))
-      ↔ ((trail table text : List ℕ) → CheckIs document environment trail table text Verdict.Accepted → ⊥)
+  pub refused-exactly : ((x : Refusal) × (r ≡ Err x))
+      ↔ ((trail table text : List ℕ) → CheckIs document environment trail table text (Ok tt) → ⊥)
   refused-exactly = (
     λ p trail table text check.
         let y = runs.yes-approval check refl in
-        runs.refused-refuses run p.2 (ap (λ q. q.number) in-full ∙ approval-resolves document environment trail table text y),
+        runs.refused-refuses run p.1 (ap (λ q. q.number) in-full ∙ approval-resolves document environment trail table text y),
     λ never. go r refl never,
   )
     where
-      go : (q : Resolution) → r ≡ q → ((trail table text : List ℕ) → CheckIs document environment trail table text Verdict.Accepted → ⊥)
-          → (number : ℕ) × (place : DocAt) × (r ≡ Resolution.Refused number place)
-      go (Resolution.Refused number place) e never = (number, place, e)
-      go (Resolution.Done count s t x) e never =
+      go : (q : Result Resolution Refusal) → r ≡ q → ((trail table text : List ℕ) → CheckIs document environment trail table text (Ok tt) → ⊥)
+          → (x : Refusal) × (r ≡ Err x)
+      go (Err x) e never = (x, e)
+      go (Ok o) e never =
           let z = runs.done-number run e in
           absurd (never _ _ _ (runs.approval-run (runs.hands-approval run (runs.run-hands run z))))
 
 -- ---- check
 
-module _ {document environment trail table text : List ℕ} {v : Verdict} (run : CheckIs document environment trail table text v) where
+module _ {document environment trail table text : List ℕ} {v : Result (Unit {0}) Refusal} (run : CheckIs document environment trail table text v) where
   -- a refusal's number and place
-  pub check-refusal : {number : ℕ} {place : DocAt} → v ≡ Verdict.Refused number place
-      → promises.OneOf check_numbers number × (document_of place.0 ≡ 0) × (offset_of place.0 ≤ length document)
-  check-refusal {number} {place} h =
-      let n : number ≡ (J.check_job document environment trail table text).number = ap (λ q. q.number) (rw h at run.is) in
-      let d : document_of place.0 ≡ (J.check_job document environment trail table text).document
+  pub check-refusal : {x : Refusal} → v ≡ Err x
+      → promises.OneOf check_numbers x.number × (document_of x.place.0 ≡ 0) × (offset_of x.place.0 ≤ length document)
+  check-refusal {x} h =
+      let n : x.number ≡ (J.check_job document environment trail table text).number = ap (λ q. q.number) (rw h at run.is) in
+      let d : document_of x.place.0 ≡ (J.check_job document environment trail table text).document
       = ap (λ q. q.document) (rw h at run.is) in
-      let p : offset_of place.0 ≡ (J.check_job document environment trail table text).place = ap (λ q. q.place) (rw h at run.is) in (
-        rw n (promises.check-numbers document environment trail table text (λ z. absurd (omega (arith, n, run.refusal number place h)))),
+      let p : offset_of x.place.0 ≡ (J.check_job document environment trail table text).place = ap (λ q. q.place) (rw h at run.is) in (
+        rw n (promises.check-numbers document environment trail table text (λ z. absurd (omega (arith, n, run.refusal x h)))),
         rw d (promises.check-document document environment trail table text),
         rw p (promises.check-place document environment trail table text),
       )
@@ -164,7 +163,7 @@ module _ {document environment trail table text : List ℕ} {v : Verdict} (run :
   -- "a sheet is accepted exactly if .."
   pub accepted-exactly : (x : Setting) → inputs true document environment ≡ valid x
       → length trail ≤ 32768 → length table ≤ 32768 → length text ≤ 32768
-      → (v ≡ Verdict.Accepted)
+      → (v ≡ Ok tt)
       ↔ ((S : Trail Answer) × (w : Value) × Accepts (J.order_of x 32768 32768) (root_value x.document.root x.environment) S w
       × (within_size w ≡ true) × LaidOut S w trail table text)
   accepted-exactly x read h k m = (
@@ -179,7 +178,7 @@ module _ {document environment trail table text : List ℕ} {v : Verdict} (run :
   PartFor none part = part ≡ []
   PartFor (some w) part = (offset : ℕ) × (part ≡ records offset w) × At text offset (texts w)
 
-  pub look-up-finds : v ≡ Verdict.Accepted → (S : Trail Answer) (w : Value) → LaidOut S w trail table text
+  pub look-up-finds : v ≡ Ok tt → (S : Trail Answer) (w : Value) → LaidOut S w trail table text
       → (path : List ℕ) (names : List Text) (end : ℕ) → length path ≤ max_path_text → ill_formed path ≡ none → path_text path ≡ ok names end
       → (part : List ℕ) → part ≡ part_of table (J.look_up_job table text path) → PartFor (value_at names w) part
   unfolding part_of J.not_found

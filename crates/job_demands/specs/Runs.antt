@@ -1,13 +1,11 @@
 -- Runs of resolve, check and look-up, by their contracts: what a run hands back is what the job of the rules does.
-use Rattle.std.specs.Prelude.{Ok, Err, ◌≡◌, ℕ, ◌≤◌, List, length, take}
+use Rattle.std.specs.Prelude.{◌≡◌, ℕ, ◌≤◌, List, length, take, Result, Ok, Err}
 use Rattle.std.proofs.Math.Path.{refl, ap}
 use Rattle.std.proofs.Common.{sym, ◌∙◌, arith}
 use Rattle.std.proofs.Math.Seq.{take-append_seam}
 use Rattle.text_chars.specs.Cursor.{refusal}
 use Rattle.text_chars.specs.declared.DocAt.{DocAt}
 use Rattle.text_chars.specs.declared.Refusal.{Refusal}
-use Rattle.text_chars.specs.declared.RecLen.{RecLen}
-use Rattle.text_chars.specs.declared.TextLen.{TextLen}
 use Rattle.answers.specs.Theory.Sound.{clash}
 use Rattle.rules.specs.Refusals.{document_of, offset_of, nowhere}
 use Rattle.rules.specs.Jobs as J
@@ -21,12 +19,14 @@ use Rattle.job_results.specs.Unpacking.{Roomy, refusal-some}
 use Rattle.job_results.specs.Bits.{resolve-roomy}
 use Rattle.job_results.specs.Clauses.{ResolveIs, CheckIs}
 use Rattle.job_results.specs.declared.Resolution.{Resolution}
-use Rattle.job_results.specs.declared.Verdict.{Verdict}
 
 -- A run that succeeded, and the sheet that it hands back: as many bytes of each buffer as its answer tells.
-pub record Hands (r : Resolution) (b c f trail table text : List ℕ) : Type 0 where
+abbrev pub sheet : (count trail table text : ℕ) → Resolution
+sheet count trail table text = record { count = count; trail = record { 0 = trail }; table = record { 0 = table }; text = record { 0 = text } }
+
+pub record Hands (r : Result Resolution Refusal) (b c f trail table text : List ℕ) : Type 0 where
   pub count : ℕ
-  pub answer : r ≡ Resolution.Done count (record { 0 = length trail }) (record { 0 = length table }) (record { 0 = length text })
+  pub answer : r ≡ Ok (sheet count (length trail) (length table) (length text))
   pub trail_is : trail ≡ take (length trail) b
   pub table_is : table ≡ take (length table) c
   pub text-is : text ≡ take (length text) f
@@ -36,7 +36,7 @@ used-part : (n : ℕ) (xs : List ℕ) → take (length xs) (filled n xs) ≡ xs
 unfolding filled
 used-part n xs = take-append_seam xs _
 
-module _ {d e : List ℕ} {budget : ℕ} {b c f b' c' f' : List ℕ} {r : Resolution} (run : ResolveIs d e budget b c f b' c' f' r) where
+module _ {d e : List ℕ} {budget : ℕ} {b c f b' c' f' : List ℕ} {r : Result Resolution Refusal} (run : ResolveIs d e budget b c f b' c' f' r) where
   abbrev pub job : Resolved
   job = resolve_job d e budget (length b) (length c) (length f)
 
@@ -56,15 +56,15 @@ module _ {d e : List ℕ} {budget : ℕ} {b c f b' c' f' : List ℕ} {r : Resolu
   pub run-hands : job.number ≡ 0 → Hands r b' c' f' job.trail job.table job.text
   run-hands z = go r run.answer (rw (← run.answer) at (resolve-roomy d e budget (length b) (length c) (length f)))
     where
-      go : (q : Resolution) → located_told d (resolution_told q) ≡ resolved_told job → Roomy (located_told d (resolution_told q))
+      go : (q : Result Resolution Refusal) → located_told d (resolution_told q) ≡ resolved_told job → Roomy (located_told d (resolution_told q))
           → Hands q b' c' f' job.trail job.table job.text
-      go (Resolution.Refused number place) h k = absurd (omega (arith, refusal-some d number place k, ap (λ (t : Located). t.number) h))
-      go (Resolution.Done count s t x) h k =
-          let p : s.0 ≡ length job.trail = ap (λ (t : Located). t.trail) h in
-          let q : t.0 ≡ length job.table = ap (λ (t : Located). t.table) h in
-          let v : x.0 ≡ length job.text = ap (λ (t : Located). t.text) h in
+      go (Err x) h k = absurd (omega (arith, refusal-some d x k, ap (λ (t : Located). t.number) h))
+      go (Ok o) h k =
+          let p : o.trail.0 ≡ length job.trail = ap (λ (t : Located). t.trail) h in
+          let q : o.table.0 ≡ length job.table = ap (λ (t : Located). t.table) h in
+          let v : o.text.0 ≡ length job.text = ap (λ (t : Located). t.text) h in
           record {
-            count = count;
+            count = o.count;
             answer = rw (← p, ← q, ← v) refl;
             trail_is = sym (ap (take (length job.trail)) trail-filled ∙ used-part (length b) job.trail);
             table_is = sym (ap (take (length job.table)) table_filled ∙ used-part (length c) job.table);
@@ -73,9 +73,7 @@ module _ {d e : List ℕ} {budget : ℕ} {b c f b' c' f' : List ℕ} {r : Resolu
 
   -- and what a run hands back is that sheet
   module _ {trail table text : List ℕ} (h : Hands r b' c' f' trail table text) where
-    told : located_told d (resolution_told
-        (Resolution.Done h.count (record { 0 = length trail }) (record { 0 = length table }) (record { 0 = length text })))
-        ≡ resolved_told job
+    told : located_told d (resolution_told (Ok (sheet h.count (length trail) (length table) (length text)))) ≡ resolved_told job
     told = rw h.answer at run.answer
 
     pub hands-number : job.number ≡ 0
@@ -102,49 +100,49 @@ module _ {d e : List ℕ} {budget : ℕ} {b c f b' c' f' : List ℕ} {r : Resolu
     pub hands-approval : Approval d e trail table text
     hands-approval = rw (hands-trail, hands-table, hands-text) (resolved-approval d e budget (length b) (length c) (length f) hands-number)
 
-  pub done-number : {count : ℕ} {s t : RecLen} {x : TextLen} → r ≡ Resolution.Done count s t x → job.number ≡ 0
+  pub done-number : {o : Resolution} → r ≡ Ok o → job.number ≡ 0
   done-number h = sym (ap (λ (t : Located). t.number) (rw h at run.answer))
 
   -- where it refuses, the run does, with its number and place, and leaves all bytes zero
-  module _ {number : ℕ} {place : DocAt} (h : r ≡ Resolution.Refused number place) where
-    refused-told : located_told d (resolution_told (Resolution.Refused number place)) ≡ resolved_told job
+  module _ {x : Refusal} (h : r ≡ Err x) where
+    refused-told : located_told d (resolution_told (Err x)) ≡ resolved_told job
     refused-told = rw h at run.answer
 
-    pub refused-number : number ≡ job.number
+    pub refused-number : x.number ≡ job.number
     refused-number = ap (λ (t : Located). t.number) refused-told
 
-    pub refused-document : document_of place.0 ≡ job.document
+    pub refused-document : document_of x.place.0 ≡ job.document
     refused-document = ap (λ (t : Located). t.document) refused-told
 
-    pub refused-place : offset_of place.0 ≡ job.place
+    pub refused-place : offset_of x.place.0 ≡ job.place
     refused-place = ap (λ (t : Located). t.place) refused-told
 
-    pub refused-some : 1 ≤ number
+    pub refused-some : 1 ≤ x.number
     refused-some =
-        refusal-some d number place (rw h at (rw (← run.answer) at (resolve-roomy d e budget (length b) (length c) (length f))))
+        refusal-some d x (rw h at (rw (← run.answer) at (resolve-roomy d e budget (length b) (length c) (length f))))
 
     pub refused-refuses : job.number ≡ 0 → ⊥
     refused-refuses z = absurd (omega (arith, refused-number, refused-some))
 
 -- ---- check
 
-module _ {d e trail table text : List ℕ} {v : Verdict} (run : CheckIs d e trail table text v) where
+module _ {d e trail table text : List ℕ} {v : Result (Unit {0}) Refusal} (run : CheckIs d e trail table text v) where
   -- a yes of a run is one of the rules
-  pub yes-approval : v ≡ Verdict.Accepted → Approval d e trail table text
+  pub yes-approval : v ≡ Ok tt → Approval d e trail table text
   yes-approval y = approval-inv d e trail table text (sym (ap (λ u. u.number) (rw y at run.is)))
 
-  pub approval-yes : Approval d e trail table text → v ≡ Verdict.Accepted
+  pub approval-yes : Approval d e trail table text → v ≡ Ok tt
   approval-yes a = go v refl (run.is ∙ approval-is d e trail table text a)
     where
-      go : (u : Verdict) → v ≡ u → verdict_of d u ≡ yes → u ≡ Verdict.Accepted
-      go Verdict.Accepted h k = refl
-      go (Verdict.Refused number place) h k = absurd (omega (arith, run.refusal number place h, ap (λ u. u.number) k))
+      go : (u : Result (Unit {0}) Refusal) → v ≡ u → verdict_of d u ≡ yes → u ≡ Ok tt
+      go (Ok t) h k = refl
+      go (Err x) h k = absurd (omega (arith, run.refusal x h, ap (λ u. u.number) k))
 
 -- the rules' yes is one that a run may give
-pub approval-run : {d e trail table text : List ℕ} → Approval d e trail table text → CheckIs d e trail table text Verdict.Accepted
+pub approval-run : {d e trail table text : List ℕ} → Approval d e trail table text → CheckIs d e trail table text (Ok tt)
 approval-run {d} {e} {trail} {table} {text} a = record {
   is = sym (approval-is d e trail table text a);
-  refusal = λ number place h. clash (cc (h));
+  refusal = λ x h. clash (cc (h));
 }
 
 -- ---- look-up

@@ -8,7 +8,7 @@ ghost use Rattle.rules.specs.Jobs.{room_of};
 
 use codes::limits;
 use job_results::Resolution;
-use text_chars::{RecLen, TextLen};
+use text_chars::{RecLen, Refusal, TextLen};
 
 /// How many bytes of each part are used.
 #[derive(Clone, Copy)]
@@ -28,17 +28,16 @@ fn clear_from(part: &mut [u8], used: usize)
 }
 
 // What a resolution uses; a refused one nothing.
-fn used_of(resolution: Resolution) -> Used
+fn used_of(resolution: Result<Resolution, Refusal>) -> Used
     ensures { UsedIs resolution result }
 {
     match resolution {
-        Resolution::Done {
-            count,
-            trail,
-            table,
-            text,
-        } => Used { trail, table, text },
-        Resolution::Refused { number, place } => Used {
+        Ok(sheet) => Used {
+            trail: sheet.trail,
+            table: sheet.table,
+            text: sheet.text,
+        },
+        Err(_) => Used {
             trail: RecLen(0),
             table: RecLen(0),
             text: TextLen(0),
@@ -47,7 +46,12 @@ fn used_of(resolution: Resolution) -> Used
 }
 
 /// Zeros behind what a resolution uses of each part.
-pub fn finish(trail: &mut [u8], table: &mut [u8], text: &mut [u8], resolution: Resolution)
+pub fn finish(
+    trail: &mut [u8],
+    table: &mut [u8],
+    text: &mut [u8],
+    resolution: Result<Resolution, Refusal>,
+)
     ensures { FinishedIs resolution trail.old table.old text.old
         trail.new table.new text.new }
 {

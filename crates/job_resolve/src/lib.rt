@@ -12,7 +12,7 @@ use job_inputs::buffers::{budget_fits, finish, room_of};
 use job_inputs::read_task;
 use job_results::Resolution;
 use job_root::hand_root;
-use text_chars::{RecAt, TextAt};
+use text_chars::{RecAt, Refusal, TextAt};
 
 // Resolves a document that was read into a job's memory: the root is settled, which lays the trail; then its value is evaluated once, and
 // handed back. The buffers are no longer than their rooms.
@@ -24,7 +24,7 @@ fn resolution(
     trail: &mut [u8],
     table: &mut [u8],
     text: &mut [u8],
-) -> Resolution
+) -> Result<Resolution, Refusal>
     requires { ResolutionAsked numbers.old bytes.old environment.now budget trail.old text.old }
     ensures { ResolutionIs numbers.old bytes.old environment.now budget
         trail.old trail.new table.old table.new text.old text.new result }
@@ -37,7 +37,7 @@ fn resolution(
         text: TextAt(0),
         begun: 0,
     };
-    match settle_root(
+    let at = settle_root(
         numbers,
         bytes,
         environment,
@@ -48,13 +48,8 @@ fn resolution(
         &mut list,
         start,
         budget,
-    ) {
-        Err(x) => Resolution::Refused {
-            number: x.number,
-            place: x.place,
-        },
-        Ok(at) => hand_root(numbers, bytes, &mut stack, &mut room, at, table, text),
-    }
+    )?;
+    hand_root(numbers, bytes, &mut stack, &mut room, at, table, text)
 }
 
 /// Resolves a document in its environment, for any bytes, any budget and buffers of any length: what the rules of the job give, and every
@@ -66,7 +61,7 @@ pub fn resolve(
     trail: &mut [u8],
     table: &mut [u8],
     text: &mut [u8],
-) -> Resolution
+) -> Result<Resolution, Refusal>
     ensures { ResolveIs document.now environment.now budget
         trail.old table.old text.old trail.new table.new text.new result }
 {
@@ -78,10 +73,7 @@ pub fn resolve(
     let mut bytes = [0u8; eval_state::BYTES];
     match read_task(fits, document, environment, &mut numbers, &mut bytes) {
         Err(e) => {
-            let r = Resolution::Refused {
-                number: e.number,
-                place: e.place,
-            };
+            let r = Err(e);
             finish(trail, table, text, r);
             r
         }

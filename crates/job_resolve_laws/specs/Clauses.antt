@@ -1,9 +1,10 @@
 -- What the resolution of a document that was read promises.
-use Rattle.std.specs.Prelude.{Bool, List, ℕ, ◌≤◌, length}
+use Rattle.std.specs.Prelude.{Bool, List, ℕ, ◌≤◌, length, Result}
 use Rattle.rules.specs.Sizes.{max_room}
 use Rattle.rules.specs.Documents.{Setting}
 use Rattle.theory_order.specs.Clauses.{Task}
 use Rattle.theory_order.specs.Whole.{resolved_of}
+use Rattle.text_chars.specs.declared.Refusal.{Refusal}
 use Rattle.eval_writer.specs.Copies.Contracts.{most_bytes}
 use Rattle.eval_state.specs.Memories.{job_bytes}
 use Rattle.job_results.specs.declared.Resolution.{Resolution}
@@ -27,6 +28,6 @@ abbrev pub task_of : (x : Setting) (budget : ℕ) (trail text : List ℕ) → Ta
 task_of x budget trail text = record { setting = x; budget = budget; trail_room = length trail; text_room = length text }
 
 -- trail, table and text before and after
-pub record ResolutionIs (T B environment : List ℕ) (budget : ℕ) (trail trail' table table' text text' : List ℕ) (r : Resolution) : Type 0 where
+pub record ResolutionIs (T B environment : List ℕ) (budget : ℕ) (trail trail' table table' text text' : List ℕ) (r : Result Resolution Refusal) : Type 0 where
   pub is : (a : ResolutionAsked T B environment budget trail text)
       → HandedBack (resolved_of (task_of a.setting budget trail text) (length table)) trail' table' text' r

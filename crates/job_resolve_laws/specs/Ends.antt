@@ -85,7 +85,7 @@ module _ (s e : List ℕ) (budget : ℕ) (b c x : List ℕ) where
       ap (resolved budget (room_of (length b)) (room_of (length c)) (room_of (length x))) (ap (λ (t : Bool). inputs t s e) (sym f) ∙ q)
 
   -- buffers that begin with what the rules hand back, cleared behind it
-  ended : {b' c' x' b'' c'' x'' : List ℕ} {r : Resolution} → HandedBack result b' c' x' r
+  ended : {b' c' x' b'' c'' x'' : List ℕ} {r : Returned Resolution Refused} → HandedBack result b' c' x' r
       → length b' ≡ length b → length c' ≡ length c → length x' ≡ length x → FinishedIs r b' c' x' b'' c'' x''
       → ResolveIs s e budget b c x b'' c'' x'' r
   ended {b'} {c'} {x'} h i j k F = record {
@@ -97,13 +97,13 @@ module _ (s e : List ℕ) (budget : ℕ) (b c x : List ℕ) where
   }
 
   module _ {fits : Bool} (f : fits ≡ leb budget max_budget) {T B T' B' : List ℕ} {q : Returned Reading Refused} (W : TaskIs fits s e T B T' B' q) where
-    pub resolve-refused : {d : Refused} {b'' c'' x'' : List ℕ} → q ≡ Err d → FinishedIs (Resolution.Refused d.number d.place) b c x b'' c'' x''
-        → ResolveIs s e budget b c x b'' c'' x'' (Resolution.Refused d.number d.place)
+    pub resolve-refused : {d : Refused} {b'' c'' x'' : List ℕ} → q ≡ Err d → FinishedIs (Err d) b c x b'' c'' x''
+        → ResolveIs s e budget b c x b'' c'' x'' (Err d)
     unfolding refused_with resolved
     resolve-refused {d} z F =
         let h : InputRefuses (inputs fits s e) d.number d.place = rw z at W.is in
         let y : Refusal = h.0 in
-        ended (subst (λ (R : Result). HandedBack R b c x (Resolution.Refused d.number d.place)) (sym (result-of fits f (refused y) h.1))
+        ended (subst (λ (R : Result). HandedBack R b c x (Err d)) (sym (result-of fits f (refused y) h.1))
         (record {
           told = told (number_of y) (place_of y) h.2 h.3;
           holding = record {
@@ -115,7 +115,7 @@ module _ (s e : List ℕ) (budget : ℕ) (b c x : List ℕ) where
         refl refl refl F
       where
         told : (m p : ℕ) → d.number ≡ m → d.place.0 ≡ p
-            → resolution_told (Resolution.Refused d.number d.place) ≡ record { number = m; place = p; count = 0; trail = 0; table = 0; text = 0 }
+            → resolution_told (Err d) ≡ record { number = m; place = p; count = 0; trail = 0; table = 0; text = 0 }
         told m p i j = rw (i, j)
 
     module _ {v : Reading} (z : q ≡ Ok v) (l : length B ≡ job_bytes) {i k : ℕ} (o : i ≡ room_of (length b))
@@ -124,7 +124,7 @@ module _ (s e : List ℕ) (budget : ℕ) (b c x : List ℕ) where
       asked = resolution-asked s e budget b x f W z l o u
 
       -- the task is that of the rooms
-      done : {j : ℕ} → j ≡ room_of (length c) → {b' c' x' : List ℕ} {r : Resolution}
+      done : {j : ℕ} → j ≡ room_of (length c) → {b' c' x' : List ℕ} {r : Returned Resolution Refused}
           → ResolutionIs T' B' e budget (take i b) b' (take j c) c' (take k x) x' r → HandedBack result b' c' x' r
       unfolding resolution-asked resolved
       done {j} v {b'} {c'} {x'} {r} R =
@@ -132,7 +132,7 @@ module _ (s e : List ℕ) (budget : ℕ) (b c x : List ℕ) where
           subst (λ (R : Result). HandedBack R b' c' x' r) (sym (result-of fits f (valid asked.setting) asked.ready.read))
           (rw (sym (part_length b i o), sym (part_length c j v), sym x) (R.is asked))
 
-      pub resolve-done : {j : ℕ} {b' c' x' b'' c'' x'' : List ℕ} {r : Resolution} → j ≡ room_of (length c)
+      pub resolve-done : {j : ℕ} {b' c' x' b'' c'' x'' : List ℕ} {r : Returned Resolution Refused} → j ≡ room_of (length c)
           → ResolutionIs T' B' e budget (take i b) b' (take j c) c' (take k x) x' r
           → length b' ≡ length (take i b) → length c' ≡ length (take j c) → length x' ≡ length (take k x)
           → FinishedIs r (b' ++ drop i b) (c' ++ drop j c) (x' ++ drop k x) b'' c'' x'' → ResolveIs s e budget b c x b'' c'' x'' r

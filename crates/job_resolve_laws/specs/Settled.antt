@@ -56,13 +56,13 @@ module _ {T B E w : List ℕ} {budget : ℕ} {trail text : List ℕ} where
       settled a z = rw z at (W.is (settles a l zeros whole))
 
       pub resolution-refused : {table : List ℕ} {x : Refused} → q ≡ Err x
-          → ResolutionIs T B E budget trail trail' table table text text' (Resolution.Refused x.number x.place)
+          → ResolutionIs T B E budget trail trail' table table text text' (Err x)
       unfolding refused_with
       resolution-refused {table} {x} z = record {
         is = λ a.
             let h : RefusedAs (settle_root_c (task a)) x.number x.place.0 = settled a z in
             let y = h.refusal in
-            subst (λ (R : Result). HandedBack R trail' table text' (Resolution.Refused x.number x.place))
+            subst (λ (R : Result). HandedBack R trail' table text' (Err x))
             (sym (root-refused (task a) a.ready.state.document.read (task-nested a) (length table) y h.is))
             (record {
               told = told (number_of y) (place_of y) h.its-number h.its-place;
@@ -75,7 +75,7 @@ module _ {T B E w : List ℕ} {budget : ℕ} {trail text : List ℕ} where
       }
         where
           told : (m p : ℕ) → x.number ≡ m → x.place.0 ≡ p
-              → resolution_told (Resolution.Refused x.number x.place) ≡ record { number = m; place = p; count = 0; trail = 0; table = 0; text = 0 }
+              → resolution_told (Err x) ≡ record { number = m; place = p; count = 0; trail = 0; table = 0; text = 0 }
           told m p i j = rw (i, j)
 
       module _ {p : Progress} (z : q ≡ Ok p) where
@@ -95,6 +95,6 @@ module _ {T B E w : List ℕ} {budget : ℕ} {trail text : List ℕ} where
               texts = omega (arith, H.texts, H.state.small);
             }
 
-        pub resolution-done : {table table' text'' : List ℕ} {r : Resolution} → root.HandRootIs T' B' p table table' text' text'' r
+        pub resolution-done : {table table' text'' : List ℕ} {r : Returned Resolution Refused} → root.HandRootIs T' B' p table table' text' text'' r
             → ResolutionIs T B E budget trail trail' table table' text text'' r
         resolution-done {table} R = record { is = λ a. R.is (task a) trail' (task-nested a) (at-root a) }

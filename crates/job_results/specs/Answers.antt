@@ -1,11 +1,11 @@
 -- Document 01's number and values for each case of the answers of resolve and check; and their packing into 64 bits for C.
-use Rattle.std.specs.Prelude.{ℕ, ◌+◌, ◌*◌, ◌≤◌, ◌<◌, cond, List, length, eqb}
+use Rattle.std.specs.Prelude.{ℕ, ◌+◌, ◌*◌, ◌≤◌, ◌<◌, cond, List, length, eqb, Result, Ok, Err}
 use Rattle.rules.specs.Refusals.{document_of, offset_of}
 use Rattle.rules.specs.Positions.{line_of, column_of}
 use Rattle.rules.specs.Jobs as J
+use Rattle.text_chars.specs.declared.Refusal.{Refusal}
 use Rattle.job_results.specs.Places.{packed_refusal, RefusalFits}
 use Rattle.job_results.specs.declared.Resolution.{Resolution}
-use Rattle.job_results.specs.declared.Verdict.{Verdict}
 
 -- ---- resolve
 
@@ -18,11 +18,9 @@ pub record Told : Type 0 where
   pub table : ℕ
   pub text : ℕ
 
-abbrev pub resolution_told : Resolution → Told
-resolution_told (Resolution.Done count trail table text) =
-    record { number = 0; place = 0; count = count; trail = trail.0; table = table.0; text = text.0 }
-resolution_told (Resolution.Refused number place) =
-    record { number = number; place = place.0; count = 0; trail = 0; table = 0; text = 0 }
+abbrev pub resolution_told : Result Resolution Refusal → Told
+resolution_told (Ok v) = record { number = 0; place = 0; count = v.count; trail = v.trail.0; table = v.table.0; text = v.text.0 }
+resolution_told (Err x) = record { number = x.number; place = x.place.0; count = 0; trail = 0; table = 0; text = 0 }
 
 abbrev pub result_told : J.Result → Told
 result_told r = record {
@@ -81,27 +79,27 @@ packed_resolution t =
     (packed_refusal t.number t.document t.place t.line t.column)
 
 -- each value has room in its bits, so that none spills; a refusal's number is not 0
-abbrev pub HasRoom : List ℕ → Resolution → Type 0
-HasRoom s (Resolution.Done count trail table text) = (count < 512) × (trail.0 < 65536) × (table.0 < 65536) × (text.0 < 65536)
-HasRoom s (Resolution.Refused number place) = (1 ≤ number) × RefusalFits s number place.0
+abbrev pub HasRoom : List ℕ → Result Resolution Refusal → Type 0
+HasRoom s (Ok v) = (v.count < 512) × (v.trail.0 < 65536) × (v.table.0 < 65536) × (v.text.0 < 65536)
+HasRoom s (Err x) = (1 ≤ x.number) × RefusalFits s x.number x.place.0
 
-pub record Packable (s : List ℕ) (r : Resolution) : Type 0 where
+pub record Packable (s : List ℕ) (r : Result Resolution Refusal) : Type 0 where
   pub room : HasRoom s r
 
 -- ---- check
 
-abbrev pub verdict_of : (document : List ℕ) → Verdict → J.Verdict
-verdict_of document Verdict.Accepted = J.yes
-verdict_of document (Verdict.Refused number place) = J.refused_at document number place.0
+abbrev pub verdict_of : (document : List ℕ) → Result (Unit {0}) Refusal → J.Verdict
+verdict_of document (Ok u) = J.yes
+verdict_of document (Err x) = J.refused_at document x.number x.place.0
 
 -- Check in 64 bits, as `packed_refusal` has it: all are 0 where the sheet is accepted.
 unfoldable pub packed_verdict : J.Verdict → ℕ
 unfolding packed_refusal
 packed_verdict v = packed_refusal v.number v.document v.place v.line v.column
 
-abbrev pub VerdictRoom : List ℕ → Verdict → Type 0
-VerdictRoom s Verdict.Accepted = Unit {0}
-VerdictRoom s (Verdict.Refused number place) = RefusalFits s number place.0
+abbrev pub VerdictRoom : List ℕ → Result (Unit {0}) Refusal → Type 0
+VerdictRoom s (Ok u) = Unit {0}
+VerdictRoom s (Err x) = RefusalFits s x.number x.place.0
 
-pub record PackableVerdict (s : List ℕ) (v : Verdict) : Type 0 where
+pub record PackableVerdict (s : List ℕ) (v : Result (Unit {0}) Refusal) : Type 0 where
   pub room : VerdictRoom s v

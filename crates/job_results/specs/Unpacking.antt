@@ -1,16 +1,15 @@
 -- What the header's functions take out of 64 bits is what was packed into them.
-use Rattle.std.specs.Prelude.{◌≡◌, cond, true, List, ℕ, ◌+◌, ◌*◌, ◌/◌, ◌%◌, ◌≤◌, ◌<◌, eqb, length}
+use Rattle.std.specs.Prelude.{◌≡◌, cond, true, List, ℕ, ◌+◌, ◌*◌, ◌/◌, ◌%◌, ◌≤◌, ◌<◌, eqb, length, Result, Ok, Err}
 use Rattle.std.proofs.Common.{sym, ◌∙◌, ap, eq-eqb, ne_eqb}
 use native.Mathlib.Omega.{arith}
 use Rattle.rules.specs.Jobs as J
-use Rattle.text_chars.specs.declared.DocAt.{DocAt}
+use Rattle.text_chars.specs.declared.Refusal.{Refusal}
 use Rattle.rules.specs.Sizes.{max_document}
 use Rattle.rules.specs.Positions.{has_place}
 use Rattle.job_results.specs.Places.{packed_refusal}
 use Rattle.job_results.specs.Answers.{Located, resolution_told, located_told, packed_resolution, Packable}
 use Rattle.job_results.specs.Answers.{verdict_of, packed_verdict, PackableVerdict}
 use Rattle.job_results.specs.declared.Resolution.{Resolution}
-use Rattle.job_results.specs.declared.Verdict.{Verdict}
 
 -- ---- the header's functions, with `>> n` as a division and `& mask` as a remainder
 
@@ -84,19 +83,18 @@ pub data Roomy (t : Located) : Type 0 where
 
 module _ (s : List ℕ) where
   -- so a refusal is never taken for a sheet; what is refused in a document is so in one that is not over its bytes
-  pub packable : (r : Resolution) → Roomy (located_told s (resolution_told r))
+  pub packable : (r : Result Resolution Refusal) → Roomy (located_told s (resolution_told r))
       → (has_place (resolution_told r).number ≡ true → length s ≤ max_document) → Packable s r
-  packable (Resolution.Done count trail table text) (done n p c s o t x) h = record { room = (c, s, t, x) }
-  packable (Resolution.Done count trail table text) (refusal n a b c s t x) h = absurd (omega arith)
-  packable (Resolution.Refused number place) (done n p c s o t x) h = absurd (omega arith)
-  packable (Resolution.Refused number place) (refusal n a b c s t x) h =
+  packable (Ok v) (done n p c s o t x) h = record { room = (c, s, t, x) }
+  packable (Ok v) (refusal n a b c s t x) h = absurd (omega arith)
+  packable (Err e) (done n p c s o t x) h = absurd (omega arith)
+  packable (Err e) (refusal n a b c s t x) h =
       record { room = (n, record { number_fits = a; document-fits = omega (arith, b.document-fits); asked = record { short = h } }) }
 
 -- a refusal's number is never 0
-pub refusal-some : (s : List ℕ) (number : ℕ) (place : DocAt)
-    → Roomy (located_told s (resolution_told (Resolution.Refused number place))) → 1 ≤ number
-refusal-some s number place (done n p c i o t x) = absurd (omega arith)
-refusal-some s number place (refusal n a b c i t x) = n
+pub refusal-some : (s : List ℕ) (e : Refusal) → Roomy (located_told s (resolution_told (Err e))) → 1 ≤ e.number
+refusal-some s e (done n p c i o t x) = absurd (omega arith)
+refusal-some s e (refusal n a b c i t x) = n
 
 -- what stands at each place of the bits
 module _ (c s t x : ℕ) where
@@ -202,10 +200,10 @@ pub record RoomyVerdict (v : J.Verdict) : Type 0 where
   pub number : v.number < 64
   pub place : PlaceFits v.document v.place v.line v.column
 
-pub packable-verdict : (s : List ℕ) (v : Verdict) → RoomyVerdict (verdict_of s v)
+pub packable-verdict : (s : List ℕ) (v : Result (Unit {0}) Refusal) → RoomyVerdict (verdict_of s v)
     → (has_place (verdict_of s v).number ≡ true → length s ≤ max_document) → PackableVerdict s v
-packable-verdict s Verdict.Accepted h k = record { room = tt }
-packable-verdict s (Verdict.Refused number place) h k =
+packable-verdict s (Ok u) h k = record { room = tt }
+packable-verdict s (Err x) h k =
     record {
       room = record { number_fits = h.number; document-fits = omega (arith, h.place.document-fits); asked = record { short = k } };
     }

@@ -1,4 +1,5 @@
-// The answers of resolve and check: their cases, where a refusal is, and the 64 bits of them that C gets.
+// The answers of resolve and check, where a refusal is, and the 64 bits of them that C gets. A refusal's place is here one number, 65,536 times
+// the document's and the offset in it.
 // Computes: Jobs (Resolved, Verdict), Positions (has_place, lineOf, column_of)
 #![tactic(auto)]
 
@@ -9,32 +10,15 @@ ghost use Rattle.job_results.specs.Answers.{verdict_of, packed_verdict, Packable
 ghost use Rattle.job_results.specs.Places.{PlaceAsked, PlaceIs, RefusalFits, PackedRefusalIs};
 
 use codes::refusals;
-use text_chars::{DocAt, RecLen, TextLen};
+use text_chars::{DocAt, RecLen, Refusal, TextLen};
 
-/// What resolve comes to.
+/// What resolve comes to, a sheet: how many unresolved values were begun, and how many bytes of each part are used.
 #[derive(Clone, Copy)]
-pub enum Resolution {
-    /// A sheet: how many unresolved values were begun, and how many bytes of each part are used.
-    Done {
-        count: usize,
-        trail: RecLen,
-        table: RecLen,
-        text: TextLen,
-    },
-    /// No sheet: a refusal's number and its place in one number, 65,536 times the document's and the offset in it.
-    Refused {
-        number: u8,
-        place: DocAt,
-    },
-}
-
-/// What check says of a sheet.
-#[derive(Clone, Copy)]
-pub enum Verdict {
-    /// Yes.
-    Accepted,
-    /// A refusal's number, and its place as in a resolution.
-    Refused { number: u8, place: DocAt },
+pub struct Resolution {
+    pub count: usize,
+    pub trail: RecLen,
+    pub table: RecLen,
+    pub text: TextLen,
 }
 
 /// Where a refusal is: a document's number, an offset in it, its line and its column. All are 0 where it has no place in a document.
@@ -101,14 +85,13 @@ const TABLE: u64 = 64 * 512 * 65536;
 const TEXT: u64 = 64 * 512 * 65536 * 65536;
 
 // A refusal's 64 bits.
-fn pack_refusal(document: &[u8], number: u8, place: DocAt) -> u64
-    requires { RefusalFits document.now number place.0 }
-    ensures { PackedRefusalIs document.now number place.0 result }
+fn pack_refusal(document: &[u8], refusal: Refusal) -> u64
+    requires { RefusalFits document.now refusal.number refusal.place.0 }
+    ensures { PackedRefusalIs document.now refusal.number refusal.place.0 result }
 {
-    let at = place_of(document, number, place);
-    let offset = at.offset;
-    let n = number as u64;
-    let o = offset.0 as u64;
+    let at = place_of(document, refusal.number, refusal.place);
+    let n = refusal.number as u64;
+    let o = at.offset.0 as u64;
     let d = at.document as u64;
     let l = at.line as u64;
     let c = at.column as u64;
@@ -116,34 +99,29 @@ fn pack_refusal(document: &[u8], number: u8, place: DocAt) -> u64
 }
 
 /// The 64 bits of a document's resolution, or of its refusal.
-pub fn pack_resolution(document: &[u8], resolution: Resolution) -> u64
+pub fn pack_resolution(document: &[u8], resolution: Result<Resolution, Refusal>) -> u64
     requires { Packable document.now resolution }
     ensures { result ≡ packed_resolution (located_told document.now (resolution_told resolution)) }
 {
     match resolution {
-        Resolution::Done {
-            count,
-            trail,
-            table,
-            text,
-        } => {
-            let n = count as u64;
-            let s = trail.0 as u64;
-            let t = table.0 as u64;
-            let x = text.0 as u64;
+        Ok(sheet) => {
+            let n = sheet.count as u64;
+            let s = sheet.trail.0 as u64;
+            let t = sheet.table.0 as u64;
+            let x = sheet.text.0 as u64;
             n * COUNT + s * TRAIL + t * TABLE + x * TEXT
         }
-        Resolution::Refused { number, place } => pack_refusal(document, number, place),
+        Err(refusal) => pack_refusal(document, refusal),
     }
 }
 
 /// The 64 bits of the verdict on a document's sheet.
-pub fn pack_verdict(document: &[u8], verdict: Verdict) -> u64
+pub fn pack_verdict(document: &[u8], verdict: Result<(), Refusal>) -> u64
     requires { PackableVerdict document.now verdict }
     ensures { result ≡ packed_verdict (verdict_of document.now verdict) }
 {
     match verdict {
-        Verdict::Accepted => 0,
-        Verdict::Refused { number, place } => pack_refusal(document, number, place),
+        Ok(()) => 0,
+        Err(refusal) => pack_refusal(document, refusal),
     }
 }

@@ -4,6 +4,7 @@ use mathlib.Core.List.{List}
 use Prim.Native.Nat.{ℕ, ◌≤◌}
 use native.Mathlib.Omega.{arith}
 use lib.ListN.{length}
+use Rattle.std.specs.Prelude.{Result}
 use Rattle.answers.specs.Ask.{lookup, run, value}
 use Rattle.answers.specs.Resolve.{answer}
 use Rattle.answers.specs.Theory.Sound.{clash}
@@ -16,6 +17,7 @@ use Rattle.theory.specs.SettledAnswers.{run-root-of}
 use Rattle.theory_order.specs.Clauses.{Task, tree_of, KeptOf}
 use Rattle.theory_order.specs.Whole.{resolved_of}
 use Rattle.theory_order.proofs.Whole.{root-answered}
+use Rattle.text_chars.specs.declared.Refusal.{Refusal}
 use Rattle.sheet_kept.specs.Kept.{named}
 use Rattle.eval_results.specs.declared.extents.Extent.{Extent}
 use Rattle.eval_results.specs.declared.values.Worked.{Worked}
@@ -66,7 +68,7 @@ module _ {B w room : List ℕ} {p : Progress} (A : HandRootAsked B w room p) whe
             fits = omega (arith, root_below s);
           })))
 
-    pub root-done : {e : Extent} {b a x y : List ℕ} {r : Resolution} → o ≡ Worked.Done e → HandIs after e p b a x y r → HandRootIs T B p b a x y r
+    pub root-done : {e : Extent} {b a x y : List ℕ} {r : Result Resolution Refusal} → o ≡ Worked.Done e → HandIs after e p b a x y r → HandRootIs T B p b a x y r
     root-done {e} {b} {a} {x} {y} {r} q h = record {
       is = λ t trail low H.
           let N = answered low H (length b) in
@@ -82,10 +84,10 @@ module _ {B w room : List ℕ} {p : Progress} (A : HandRootAsked B w room p) whe
           ∙ sym N.is) back;
     }
 
-    pub root-undefined : {b x : List ℕ} {r : Resolution} → o ≡ Worked.Undefined → HandRootIs T B p b b x x r
+    pub root-undefined : {b x : List ℕ} {r : Result Resolution Refusal} → o ≡ Worked.Undefined → HandRootIs T B p b b x x r
     root-undefined {b} q = record { is = λ t trail low H. absurd (came low H (length b) q) }
 
-    pub root-needs : {b x : List ℕ} {d : ℕ} {r : Resolution} → o ≡ Worked.Needs d → HandRootIs T B p b b x x r
+    pub root-needs : {b x : List ℕ} {d : ℕ} {r : Result Resolution Refusal} → o ≡ Worked.Needs d → HandRootIs T B p b b x x r
     root-needs {b} q = record { is = λ t trail low H. clash (cc (came low H (length b) q)) }
 
 pub ruleset roots = (root-asked, hand-asked, root-done, root-undefined, root-needs)

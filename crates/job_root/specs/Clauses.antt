@@ -1,5 +1,5 @@
 -- What the root's value, its check and its handing back promise.
-use Rattle.std.specs.Prelude.{◌≡◌, ℕ, ◌+◌, ◌*◌, ◌≤◌, Bool, List, [], length}
+use Rattle.std.specs.Prelude.{◌≡◌, ℕ, ◌+◌, ◌*◌, ◌≤◌, Bool, List, [], length, Result}
 use Rattle.std.proofs.Math.Option.{some}
 use Rattle.answers.specs.Ask.{Trail, lookup, run, value, missing}
 use Rattle.answers.specs.Resolve.{answer}
@@ -18,6 +18,7 @@ use Rattle.theory_check.specs.Steps.{CheckAt}
 use Rattle.theory_order.specs.Clauses.{Task, tree_of, settle_root_c}
 use Rattle.theory_order.specs.Whole.{resolved_of}
 use Rattle.sheet_kept.specs.Kept.{Held, named}
+use Rattle.text_chars.specs.declared.Refusal.{Refusal}
 use Rattle.eval_writer.specs.Clauses.{Room}
 use Rattle.eval_writer.specs.Composition.{start}
 use Rattle.eval_writer.specs.Copies.Contracts.{most_bytes}
@@ -104,6 +105,6 @@ pub record Settled (t : Task) (T B trail text : List ℕ) (p : Progress) : Type 
   pub is : settle_root_c t ≡ answer tt S n
 
 -- table and text before (b, x) and after (a, y); the trail is not written
-pub record HandRootIs (T B : List ℕ) (p : Progress) (b a x y : List ℕ) (r : Resolution) : Type 0 where
+pub record HandRootIs (T B : List ℕ) (p : Progress) (b a x y : List ℕ) (r : Result Resolution Refusal) : Type 0 where
   pub is : (t : Task) (trail : List ℕ) → height_of (root_node (tree_of t)) ≤ 32 → Settled t T B trail x p
       → HandedBack (resolved_of t (length b)) trail a y r

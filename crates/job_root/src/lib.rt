@@ -16,7 +16,7 @@ use eval_values::LEVELS;
 use eval_values::objects::node_value;
 use eval_writer::{Out, Source};
 use job_results::Resolution;
-use text_chars::{DocAt, RecAt, TextAt};
+use text_chars::{DocAt, RecAt, Refusal, TextAt};
 
 // The root is the first item.
 const ROOT: usize = 0;
@@ -66,11 +66,11 @@ pub fn check_root(
 }
 
 // No settled root comes here: its value is defined, and no answer that it needs is missing.
-fn no_value() -> Resolution {
-    Resolution::Refused {
+fn no_value() -> Result<Resolution, Refusal> {
+    Err(Refusal {
         number: refusals::UNDEFINED,
         place: DocAt(0),
-    }
+    })
 }
 
 /// Hands back the root's value, behind the trail that was laid.
@@ -82,7 +82,7 @@ pub fn hand_root(
     at: Progress,
     table: &mut [u8],
     text: &mut [u8],
-) -> Resolution
+) -> Result<Resolution, Refusal>
     requires { HandRootAsked bytes.now work.old room.old at }
     ensures { HandRootIs numbers.now bytes.now at table.old table.new
         text.old text.new result }

@@ -9,38 +9,30 @@ use eval_results::extents::Extent;
 use eval_trail::Progress;
 use job_results::Resolution;
 use sheet_sizes::Sizes;
-use text_chars::{DocAt, RecLen, TextAt, TextLen};
+use text_chars::{DocAt, RecLen, Refusal, TextAt, TextLen};
 
-/// Whether the root's value is handed back.
-#[derive(Clone, Copy)]
-pub enum Table {
-    /// It is within its size and fits.
-    Fits,
-    /// It is over its size: refusal 13.
-    TooLarge,
-    /// It does not fit its room: refusal 14.
-    NoRoom,
-}
-
-// The tests of the table, in their order: its size, then its room and what the trail's texts leave of the text part.
-fn judge_table(e: Extent, texts: TextAt, room: Sizes) -> Table
+// The tests of the table, in their order: its size, 13, then its room and what the trail's texts leave of the text part, 14.
+fn judge_table(e: Extent, texts: TextAt, room: Sizes) -> Result<(), Refusal>
     requires { texts.0 ≤ max_room }
     ensures { JudgeIs e texts.0 room result }
 {
     if eval_results::sizes::is_within(e) {
-        let o = e.out;
-        let rec = o.rec;
-        let text = o.text;
         let size = Sizes {
-            rec: RecLen(rec.0),
-            text: TextLen(text.0),
+            rec: RecLen(e.out.rec.0),
+            text: TextLen(e.out.text.0),
         };
         if sheet_sizes::table_fits(room, TextLen(texts.0), size) {
-            return Table::Fits;
+            return Ok(());
         }
-        return Table::NoRoom;
+        return Err(Refusal {
+            number: refusals::NO_ROOM,
+            place: DocAt(0),
+        });
     }
-    Table::TooLarge
+    Err(Refusal {
+        number: refusals::TOO_LARGE,
+        place: DocAt(0),
+    })
 }
 
 /// Hands back: the table and the end of the text part are written, or 13 or 14 is the answer.
@@ -50,36 +42,20 @@ pub fn hand_back(
     at: Progress,
     table: &mut [u8],
     text: &mut [u8],
-) -> Resolution
+) -> Result<Resolution, Refusal>
     requires { HandAsked room.now at }
     ensures { HandIs room.now e at table.old table.new text.old text.new result }
 {
-    let t = at.text;
     let room_left = Sizes {
         rec: RecLen(table.len()),
         text: TextLen(text.len()),
     };
-    match judge_table(e, t, room_left) {
-        Table::TooLarge => Resolution::Refused {
-            number: refusals::TOO_LARGE,
-            place: DocAt(0),
-        },
-        Table::NoRoom => Resolution::Refused {
-            number: refusals::NO_ROOM,
-            place: DocAt(0),
-        },
-        Table::Fits => {
-            let o = e.out;
-            let rec = o.rec;
-            let word = o.text;
-            let used = at.used;
-            eval_store::values::lay_value(room, o, t, table, text);
-            Resolution::Done {
-                count: at.begun,
-                trail: RecLen(used.0),
-                table: RecLen(rec.0),
-                text: TextLen(t.0 + word.0),
-            }
-        }
-    }
+    judge_table(e, at.text, room_left)?;
+    eval_store::values::lay_value(room, e.out, at.text, table, text);
+    Ok(Resolution {
+        count: at.begun,
+        trail: RecLen(at.used.0),
+        table: RecLen(e.out.rec.0),
+        text: TextLen(at.text.0 + e.out.text.0),
+    })
 }

@@ -7,7 +7,7 @@
 // a write that fails, with an error.
 #![tactic(auto)]
 
-use job_results::{Resolution, Verdict};
+use job_results::Resolution;
 use std::io;
 use text_chars::DocAt;
 
@@ -23,8 +23,8 @@ fn run_check(
     text: &[u8],
 ) -> io::Result<()> {
     match job_check::check(document, environment, trail, table, text) {
-        Verdict::Accepted => test_cases::print_answer(rt, 0, DocAt(0)),
-        Verdict::Refused { number, place } => test_cases::print_answer(rt, number, place),
+        Ok(()) => test_cases::print_answer(rt, 0, DocAt(0)),
+        Err(refusal) => test_cases::print_answer(rt, refusal.number, refusal.place),
     }
 }
 
@@ -39,13 +39,15 @@ fn run_resolve(
     text: &mut [u8],
 ) -> io::Result<()> {
     match job_resolve::resolve(document, environment, budget, trail, table, text) {
-        Resolution::Refused { number, place } => test_cases::print_answer(rt, number, place),
-        Resolution::Done {
-            count,
-            trail: a,
-            table: b,
-            text: c,
-        } => {
+        Err(refusal) => test_cases::print_answer(rt, refusal.number, refusal.place),
+        Ok(
+            Resolution {
+                count,
+                trail: a,
+                table: b,
+                text: c,
+            },
+        ) => {
             let sent = test_cases::part_of(trail, 0, a.0);
             let sheet = test_cases::part_of(table, 0, b.0);
             let texts = test_cases::part_of(text, 0, c.0);

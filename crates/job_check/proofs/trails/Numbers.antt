@@ -5,6 +5,7 @@ use mathlib.Core.List.{List}
 use mathlib.Core.Option.{Option, none, some}
 use native.Mathlib.Omega.{arith}
 use lib.ListN.{length, get_elem?}
+use Rattle.std.specs.Prelude.{Option as Maybe, None}
 use Rattle.answers.specs.Ask.{Trail, lookup, run}
 use Rattle.rules.specs.Bytes.{Text}
 use Rattle.rules.specs.Sizes.{max_unresolved}
@@ -29,7 +30,6 @@ use Rattle.eval_results.specs.Sizes.Outcomes.{OutcomeWithin}
 use Rattle.eval_results.specs.declared.sizes.Outcome.{Outcome}
 use Rattle.check_entries.specs.Clauses as entry
 use Rattle.check_entries.specs.declared.Reached.{Reached}
-use Rattle.check_entries.specs.declared.Checked.{Checked}
 use Rattle.job_check.specs.Trails.Contracts.{Known, TrailAsked, CaseAsked, CaseIs}
 
 -- ---- the question that is asked
@@ -99,20 +99,20 @@ module _ {T B room : List ℕ} {o : Outcome} {b : ℕ} {at : Reached} {trail tex
   case-so : (key : ℕ → Text) (items : ℕ) (g : Given Answer) {q : Outcome} → o ≡ q → outcome.OutcomeCase key items T room g o → outcome.OutcomeCase key items T room g q
   case-so key items g e C = subst (λ (q : Outcome). outcome.OutcomeCase key items T room g q) e C
 
-  pub case-done : {e : Extent} {T' B' : List ℕ} {r : Checked} → o ≡ Outcome.Done e → entry.AnswerIs room e.out b at trail text T T' B B' r
+  pub case-done : {e : Extent} {T' B' : List ℕ} {r : Maybe Reached} → o ≡ Outcome.Done e → entry.AnswerIs room e.out b at trail text T T' B B' r
       → CaseIs room o b at trail text T T' B B' r
   case-done q P = record {
     is = λ x key items S R N C. let D = case-so key items (run (lookup S) (rule_of x b)) q C in P.is x key items S D.held R N D.is D.finished;
     further = P.further;
   }
 
-  pub case-undefined : {T' : List ℕ} {r : Checked} → o ≡ Outcome.Undefined → entry.UndefinedIs b at trail T T' r → CaseIs room o b at trail text T T' B B r
+  pub case-undefined : {T' : List ℕ} {r : Maybe Reached} → o ≡ Outcome.Undefined → entry.UndefinedIs b at trail T T' r → CaseIs room o b at trail text T T' B B r
   case-undefined q P = record {
     is = λ x key items S R N C. P.is x key items B text S R N (case-so key items (run (lookup S) (rule_of x b)) q C);
     further = P.further text A.texts;
   }
 
-  pub case-needs : {d : ℕ} → o ≡ Outcome.Needs d → CaseIs room o b at trail text T T B B Checked.Wrong
+  pub case-needs : {d : ℕ} → o ≡ Outcome.Needs d → CaseIs room o b at trail text T T B B None
   case-needs {d} q = record {
     is = λ x key items S R N C table.
         check-needs R.check table (omega (arith, R.used, A.entry)) d
@@ -120,7 +120,7 @@ module _ {T B room : List ℕ} {o : Outcome} {b : ℕ} {at : Reached} {trail tex
     further = tt;
   }
 
-  pub case-refused : {n : ℕ} {p : DocAt} → o ≡ Outcome.Refused n p → CaseIs room o b at trail text T T B B Checked.Wrong
+  pub case-refused : {n : ℕ} {p : DocAt} → o ≡ Outcome.Refused n p → CaseIs room o b at trail text T T B B None
   case-refused {n} {p} q = record {
     is = λ x key items S R N C table.
         let D = case-so key items (run (lookup S) (rule_of x b)) q C in
@@ -138,7 +138,7 @@ pub record NumberAsked (T B E w room : List ℕ) (b : ℕ) (at : Reached) (trail
   pub entry : at.used.0 + 3 ≤ length trail
   pub texts : at.text.0 ≤ length text
 
-pub record NumberIs (E : List ℕ) (b : ℕ) (at : Reached) (trail text T T' B B' : List ℕ) (r : Checked) : Type 0 where
+pub record NumberIs (E : List ℕ) (b : ℕ) (at : Reached) (trail text T T' B B' : List ℕ) (r : Maybe Reached) : Type 0 where
   pub is : (x : Setting) (key : ℕ → Text) (items : ℕ) (S : Trail Answer) → Known x E → entry.Right x key items T B trail text at S → entry.Open x trail S b
       → entry.CheckedBy x key items T' B' trail text r
   pub further : entry.Further trail text at r
@@ -174,7 +174,7 @@ module _ {T B E w room : List ℕ} {b : ℕ} {at : Reached} {trail text : List �
           bytes = omega (arith, L.bytes, O.bytes);
         }
 
-    pub number_is : {T' B' : List ℕ} {r : Checked} → CaseIs after o b at trail text T T' B₁ B' r → NumberIs E b at trail text T T' B B' r
+    pub number_is : {T' B' : List ℕ} {r : Maybe Reached} → CaseIs after o b at trail text T T' B₁ B' r → NumberIs E b at trail text T T' B B' r
     number_is P = record {
       is = λ x key items S K R N. let (H, C) = answered K R N I O in P.is x key items S (again R H) N C;
       further = P.further;

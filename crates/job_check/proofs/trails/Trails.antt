@@ -4,6 +4,7 @@ use Prim.Native.Nat.{ℕ, ◌-◌, ◌≤◌, ◌<◌}
 use mathlib.Core.List.{List, []}
 use native.Mathlib.Omega.{arith}
 use lib.ListN.{length}
+use Rattle.std.specs.Prelude.{Option as Maybe, Some, None}
 use Rattle.answers.specs.Ask.{Trail}
 use Rattle.rules.specs.Bytes.{Text}
 use Rattle.rules.specs.Sizes.{max_unresolved}
@@ -18,8 +19,6 @@ use Rattle.eval_unresolved.specs.Clauses.{OutcomeIs}
 use Rattle.eval_state.specs.State.{State}
 use Rattle.check_entries.specs.Clauses as entry
 use Rattle.check_entries.specs.declared.Reached.{Reached}
-use Rattle.check_entries.specs.declared.Next.{Next}
-use Rattle.check_entries.specs.declared.Checked.{Checked}
 use Rattle.job_check.specs.Trails.Contracts.{Known, TrailAsked, CaseAsked, CaseIs, EntryAsked, EntryIs, TrailIs}
 use Rattle.job_check.proofs.trails.Numbers.{NumberAsked, outcome-asked, case-asked, number_is}
 
@@ -32,18 +31,18 @@ module _ {T B E w room : List ℕ} {count : ℕ} {at : Reached} {trail text : Li
   pub next-asked : entry.NextAsked trail at.used.0 count
   next-asked = record { short = A.lent.trail-short; inside = A.used; few = A.lent.few }
 
-  module _ {n : Next} (M : entry.NextIs T trail at.used.0 count n) where
+  module _ {n : Maybe ℕ} (M : entry.NextIs T trail at.used.0 count n) where
     -- what was matched
-    is-so : {q : Next} → n ≡ q → entry.NextIs T trail at.used.0 count q
-    is-so e = subst (λ (q : Next). entry.NextIs T trail at.used.0 count q) e M
+    is-so : {q : Maybe ℕ} → n ≡ q → entry.NextIs T trail at.used.0 count q
+    is-so e = subst (λ (q : Maybe ℕ). entry.NextIs T trail at.used.0 count q) e M
 
-    pub entry-wrong : n ≡ Next.Wrong → EntryIs E count at trail text T T B B Checked.Wrong
+    pub entry-wrong : n ≡ None → EntryIs E count at trail text T T B B None
     entry-wrong q = record {
       is = λ x key items S K c R l. (is-so q).is x key items B text S R.state R.check R.used l c;
       further = tt;
     }
 
-    module _ {b : ℕ} (q : n ≡ Next.Number b) where
+    module _ {b : ℕ} (q : n ≡ Some b) where
       number-asked : NumberAsked T B E w room b at trail text
       number-asked =
           let L = A.lent in
@@ -76,7 +75,7 @@ module _ {T B E w room : List ℕ} {count : ℕ} {at : Reached} {trail text : Li
           pub entry_case : CaseAsked T B₁ after o b at trail text
           entry_case = case-asked number-asked I O
 
-          pub entry-number : {T' B' : List ℕ} {r : Checked} → CaseIs after o b at trail text T T' B₁ B' r → EntryIs E count at trail text T T' B B' r
+          pub entry-number : {T' B' : List ℕ} {r : Maybe Reached} → CaseIs after o b at trail text T T' B₁ B' r → EntryIs E count at trail text T T' B B' r
           entry-number P =
               let N = number_is number-asked I O P in
               record {
@@ -89,19 +88,19 @@ pub ruleset entries = (next-asked, entry-wrong, entry-low, entry-asks, entry_cas
 -- ---- the trail
 
 -- the entries so far are right, for whatever document stood in memory at the start
-pub record TrailInv (E : List ℕ) (count : ℕ) (trail text T₀ B₀ w₀ room₀ T B w room : List ℕ) (used texts : ℕ) : Type 0 where
+pub record TrailInv (E : List ℕ) (count : ℕ) (trail text T₀ B₀ w₀ room₀ T B w room : List ℕ) (at : Reached) : Type 0 where
   pub lent : TrailAsked T B E w room count trail text
   pub is : (x : Setting) (key : ℕ → Text) (items : ℕ) → Known x E → count ≡ count_of x → State x key items T₀ B₀ []
-      → (S : Trail Answer) × entry.Right x key items T B trail text (reached used texts) S
-  pub used-in : used ≤ length trail
-  pub texts-in : texts ≤ length text
+      → (S : Trail Answer) × entry.Right x key items T B trail text at S
+  pub used-in : at.used.0 ≤ length trail
+  pub texts-in : at.text.0 ≤ length text
   pub table_kept : length T ≡ length T₀
   pub bytes-kept : length B ≡ length B₀
   pub work-kept : length w ≡ length w₀
   pub room-kept : length room ≡ length room₀
 
 pub trail-start : {T B E w room : List ℕ} {count : ℕ} {trail text : List ℕ} → TrailAsked T B E w room count trail text
-    → TrailInv E count trail text T B w room T B w room 0 0
+    → TrailInv E count trail text T B w room T B w room (reached 0 0)
 unfolding trail_size trail_text_size
 trail-start {trail = trail} {text = text} A = record {
   lent = A;
@@ -114,24 +113,24 @@ trail-start {trail = trail} {text = text} A = record {
   room-kept = refl;
 }
 
-module _ {E : List ℕ} {count : ℕ} {trail text T₀ B₀ w₀ room₀ T B w room : List ℕ} {used texts : ℕ}
-    (I : TrailInv E count trail text T₀ B₀ w₀ room₀ T B w room used texts) where
-  pub entry-asked : EntryAsked T B E w room count (reached used texts) trail text
+module _ {E : List ℕ} {count : ℕ} {trail text T₀ B₀ w₀ room₀ T B w room : List ℕ} {at : Reached}
+    (I : TrailInv E count trail text T₀ B₀ w₀ room₀ T B w room at) where
+  pub entry-asked : EntryAsked T B E w room count at trail text
   entry-asked = record { lent = I.lent; used = I.used-in; texts = I.texts-in }
 
-  module _ (l : used < length trail) {T' B' : List ℕ} {r : Checked} (M : EntryIs E count (reached used texts) trail text T T' B B' r) where
-    entry-so : {q : Checked} → r ≡ q → EntryIs E count (reached used texts) trail text T T' B B' q
-    entry-so e = subst (λ (q : Checked). EntryIs E count (reached used texts) trail text T T' B B' q) e M
+  module _ (l : at.used.0 < length trail) {T' B' : List ℕ} {r : Maybe Reached} (M : EntryIs E count at trail text T T' B B' r) where
+    entry-so : {q : Maybe Reached} → r ≡ q → EntryIs E count at trail text T T' B B' q
+    entry-so e = subst (λ (q : Maybe Reached). EntryIs E count at trail text T T' B B' q) e M
 
-    pub trail-wrong : {w' room' : List ℕ} → r ≡ Checked.Wrong → TrailIs E count trail text T₀ T' B₀ B' w' room' Checked.Wrong
+    pub trail-wrong : {w' room' : List ℕ} → r ≡ None → TrailIs E count trail text T₀ T' B₀ B' w' room' None
     trail-wrong q = record {
       is = λ x key items K c H. let (S, R) = I.is x key items K c H in (entry-so q).is x key items S K c R l;
       behind = tt;
     }
 
-    module _ {to : Reached} (q : r ≡ Checked.On to) where
+    module _ {to : Reached} (q : r ≡ Some to) where
       pub trail-on : {w' room' : List ℕ} → length T' ≡ length T → length B' ≡ length B → length w' ≡ length w → length room' ≡ length room
-          → TrailInv E count trail text T₀ B₀ w₀ room₀ T' B' w' room' to.used.0 to.text.0
+          → TrailInv E count trail text T₀ B₀ w₀ room₀ T' B' w' room' to
       trail-on a b c d =
           let L = I.lent in
           let P = entry-so q in
@@ -156,10 +155,10 @@ module _ {E : List ℕ} {count : ℕ} {trail text T₀ B₀ w₀ room₀ T B w r
             room-kept = d ∙ I.room-kept;
           }
 
-      pub trail-less : length trail - to.used.0 < length trail - used
+      pub trail-less : length trail - to.used.0 < length trail - at.used.0
       trail-less = let P = entry-so q in omega (arith, P.further.0, P.further.1)
 
-  pub trail-ends : length trail ≤ used → TrailIs E count trail text T₀ T B₀ B w room (Checked.On (reached used texts))
+  pub trail-ends : length trail ≤ at.used.0 → TrailIs E count trail text T₀ T B₀ B w room (Some at)
   trail-ends l = record {
     is = λ x key items K c H. let (S, R) = I.is x key items K c H in (S, R, omega (arith, R.used));
     behind = record { lent = I.lent; texts = I.texts-in };

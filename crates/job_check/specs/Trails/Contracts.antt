@@ -1,5 +1,5 @@
 -- What the check of a sheet promises, and that of its trail.
-use Rattle.std.specs.Prelude.{◌≡◌, ℕ, ◌+◌, ◌≤◌, ◌<◌, List, [], length}
+use Rattle.std.specs.Prelude.{◌≡◌, ℕ, ◌+◌, ◌≤◌, ◌<◌, List, [], length, Option as Maybe, Some, None, Result, Err}
 use Rattle.std.proofs.Math.Option.{some}
 use Rattle.std.proofs.Math.ListN.{get_elem?}
 use Rattle.answers.specs.Ask.{Trail, lookup, run}
@@ -12,7 +12,7 @@ use Rattle.rules.specs.Unresolved.{Unresolved}
 use Rattle.rules.specs.Documents.{Setting, valid, rule_of, count_of}
 use Rattle.rules.specs.Sheet.{trail_size}
 use Rattle.rules.specs.Jobs.{verdict}
-use Rattle.text_chars.specs.declared.DocAt.{DocAt}
+use Rattle.text_chars.specs.declared.Refusal.{Refusal}
 use Rattle.read_numbering.specs.Clauses.{AsRead}
 use Rattle.eval_writer.specs.Clauses.{Room}
 use Rattle.eval_writer.specs.Copies.Contracts.{most_bytes}
@@ -24,9 +24,7 @@ use Rattle.eval_unresolved.specs.Clauses.{OutcomeCase}
 use Rattle.eval_results.specs.declared.sizes.Outcome.{Outcome}
 use Rattle.check_entries.specs.Clauses.{Right, Open, Refuted, CheckedBy, Further}
 use Rattle.check_entries.specs.declared.Reached.{Reached}
-use Rattle.check_entries.specs.declared.Checked.{Checked}
 use Rattle.job_results.specs.Answers.{verdict_of}
-use Rattle.job_results.specs.declared.Verdict.{Verdict}
 
 -- ---- what is known of a document throughout
 
@@ -69,31 +67,31 @@ pub record CaseAsked (T B room : List ℕ) (o : Outcome) (b : ℕ) (at : Reached
 
 -- ---- what is promised
 
-pub record CaseIs (room : List ℕ) (o : Outcome) (b : ℕ) (at : Reached) (trail text T T' B B' : List ℕ) (r : Checked) : Type 0 where
+pub record CaseIs (room : List ℕ) (o : Outcome) (b : ℕ) (at : Reached) (trail text T T' B B' : List ℕ) (r : Maybe Reached) : Type 0 where
   pub is : (x : Setting) (key : ℕ → Text) (items : ℕ) (S : Trail Answer) → Right x key items T B trail text at S → Open x trail S b
       → OutcomeCase key items T room (run (lookup S) (rule_of x b)) o → CheckedBy x key items T' B' trail text r
   pub further : Further trail text at r
 
-pub record EntryIs (E : List ℕ) (count : ℕ) (at : Reached) (trail text T T' B B' : List ℕ) (r : Checked) : Type 0 where
+pub record EntryIs (E : List ℕ) (count : ℕ) (at : Reached) (trail text T T' B B' : List ℕ) (r : Maybe Reached) : Type 0 where
   pub is : (x : Setting) (key : ℕ → Text) (items : ℕ) (S : Trail Answer) → Known x E → count ≡ count_of x → Right x key items T B trail text at S
       → at.used.0 < length trail → CheckedBy x key items T' B' trail text r
   pub further : Further trail text at r
 
 -- to the trail's end
-abbrev pub TrailBy : Setting → (ℕ → Text) → ℕ → (T B trail text : List ℕ) → Checked → Type 0
-TrailBy x key items T B trail text (Checked.On at) = (S : Trail Answer) × Right x key items T B trail text at S × (length trail ≤ trail_size S)
-TrailBy x key items T B trail text Checked.Wrong = Refuted x trail text
+abbrev pub TrailBy : Setting → (ℕ → Text) → ℕ → (T B trail text : List ℕ) → Maybe Reached → Type 0
+TrailBy x key items T B trail text (Some at) = (S : Trail Answer) × Right x key items T B trail text at S × (length trail ≤ trail_size S)
+TrailBy x key items T B trail text None = Refuted x trail text
 
 -- what was lent may be lent again behind it
 pub record Behind (T B E w room : List ℕ) (count : ℕ) (trail text : List ℕ) (at : Reached) : Type 0 where
   pub lent : TrailAsked T B E w room count trail text
   pub texts : at.text.0 ≤ length text
 
-abbrev pub BehindBy : (T B E w room : List ℕ) → ℕ → (trail text : List ℕ) → Checked → Type 0
-BehindBy T B E w room count trail text (Checked.On at) = Behind T B E w room count trail text at
-BehindBy T B E w room count trail text Checked.Wrong = Unit {0}
+abbrev pub BehindBy : (T B E w room : List ℕ) → ℕ → (trail text : List ℕ) → Maybe Reached → Type 0
+BehindBy T B E w room count trail text (Some at) = Behind T B E w room count trail text at
+BehindBy T B E w room count trail text None = Unit {0}
 
-pub record TrailIs (E : List ℕ) (count : ℕ) (trail text T T' B B' w' room' : List ℕ) (r : Checked) : Type 0 where
+pub record TrailIs (E : List ℕ) (count : ℕ) (trail text T T' B B' w' room' : List ℕ) (r : Maybe Reached) : Type 0 where
   pub is : (x : Setting) (key : ℕ → Text) (items : ℕ) → Known x E → count ≡ count_of x → State x key items T B [] → TrailBy x key items T' B' trail text r
   pub behind : BehindBy T' B' E w' room' count trail text r
 
@@ -103,7 +101,7 @@ pub record SheetAsked (T B E w room : List ℕ) (count : ℕ) (trail text : List
   pub lent : TrailAsked T B E w room count trail text
 
 -- of a document that was read the answer is the rules'
-pub record SheetIs (E : List ℕ) (count : ℕ) (trail table text T B : List ℕ) (v : Verdict) : Type 0 where
+pub record SheetIs (E : List ℕ) (count : ℕ) (trail table text T B : List ℕ) (v : Result (Unit {0}) Refusal) : Type 0 where
   pub is : (x : Setting) (key : ℕ → Text) (items : ℕ) → Known x E → count ≡ count_of x → State x key items T B []
       → (s : List ℕ) → verdict_of s v ≡ verdict s trail table text (valid x)
-  pub refusal : (number : ℕ) (place : DocAt) → v ≡ Verdict.Refused number place → 1 ≤ number
+  pub refusal : (x : Refusal) → v ≡ Err x → 1 ≤ x.number

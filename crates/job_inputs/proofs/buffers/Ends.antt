@@ -5,9 +5,8 @@ use mathlib.Core.List.{List, [], ◌∷◌, ◌++◌, append_assoc, append-nil}
 use native.Mathlib.Omega.{arith}
 use lib.ListN.{length, take, set, replicate, length-take, length-set, replicate-append-replicate}
 use lib.Seq.{take_all, take-suc-set}
-use Rattle.text_chars.specs.declared.DocAt.{DocAt}
-use Rattle.text_chars.specs.declared.RecLen.{RecLen}
-use Rattle.text_chars.specs.declared.TextLen.{TextLen}
+use Rattle.std.specs.Prelude.{Result, Ok, Err}
+use Rattle.text_chars.specs.declared.Refusal.{Refusal}
 use Rattle.rules.specs.Jobs.{filled}
 use Rattle.job_results.specs.declared.Resolution.{Resolution}
 use Rattle.job_inputs.specs.declared.buffers.Used.{Used}
@@ -63,12 +62,11 @@ pub ruleset clears = (clear-start, clear-again, clear_in, clear-done)
 
 -- ---- what is used
 
-module _ {r : Resolution} where
-  pub used-done : {count : ℕ} {trail table : RecLen} {text : TextLen} → r ≡ Resolution.Done count trail table text
-      → UsedIs r (record { trail = trail; table = table; text = text })
+module _ {r : Result Resolution Refusal} where
+  pub used-done : {v : Resolution} → r ≡ Ok v → UsedIs r (record { trail = v.trail; table = v.table; text = v.text })
   used-done e = rw e (record { trail = refl; table = refl; text = refl })
 
-  pub used-none : {number : ℕ} {place : DocAt} → r ≡ Resolution.Refused number place
+  pub used-none : {x : Refusal} → r ≡ Err x
       → UsedIs r (record { trail = record { 0 = 0 }; table = record { 0 = 0 }; text = record { 0 = 0 } })
   used-none e = rw e (record { trail = refl; table = refl; text = refl })
 
@@ -76,6 +74,6 @@ pub ruleset uses = (used-done, used-none)
 
 -- ---- all three
 
-pub finished : {r : Resolution} {u : Used} {b c d b' c' d' : List ℕ} → UsedIs r u → ClearedIs u.trail.0 b b' → ClearedIs u.table.0 c c'
+pub finished : {r : Result Resolution Refusal} {u : Used} {b c d b' c' d' : List ℕ} → UsedIs r u → ClearedIs u.trail.0 b b' → ClearedIs u.table.0 c c'
     → ClearedIs u.text.0 d d' → FinishedIs r b c d b' c' d'
 finished h s t x = record { trail = rw h.trail at s; table = rw h.table at t; text = rw h.text at x }

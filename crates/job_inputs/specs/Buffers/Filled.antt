@@ -1,8 +1,9 @@
 -- A buffer that holds what is used at its beginning is filled as the rules say; so the three buffers of a resolution are `buffers_of` of it.
-use Rattle.std.specs.Prelude.{◌≡◌, ℕ, List, ◌++◌, length, take}
+use Rattle.std.specs.Prelude.{◌≡◌, ℕ, List, ◌++◌, length, take, Result as Returned}
 use Rattle.std.proofs.Common.{sym, ap, ◌∙◌, take_at}
 use Rattle.rules.specs.Jobs.{Result, filled, located, buffers_of}
 use Rattle.job_results.specs.Answers.{Told, resolution_told, result_told}
+use Rattle.text_chars.specs.declared.Refusal.{Refusal}
 use Rattle.job_results.specs.declared.Resolution.{Resolution}
 use Rattle.job_inputs.specs.Buffers.Contracts.{ClearedIs, FinishedIs}
 
@@ -22,7 +23,7 @@ pub record Holding (r : Result) (trail table text : List ℕ) : Type 0 where
   pub table-begins : Begins r.table table
   pub text-begins : Begins r.text text
 
-pub finished-buffers : (s : List ℕ) {q : Resolution} {r : Result} {b c d b' c' d' : List ℕ} → Holding r b c d
+pub finished-buffers : (s : List ℕ) {q : Returned Resolution Refusal} {r : Result} {b c d b' c' d' : List ℕ} → Holding r b c d
     → resolution_told q ≡ result_told r
     → FinishedIs q b c d b' c' d'
     → record { trail = b'; table = c'; text = d' } ≡ buffers_of (length b) (length c) (length d) (located s r)

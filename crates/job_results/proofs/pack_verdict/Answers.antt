@@ -4,8 +4,8 @@ use Rattle.job_results.proofs.pack_verdict.Goals as goal
 pub pack_refusal-requires : goal.pack_refusal-requires
 pack_refusal-requires c = search no_room
 
-pub returns-in-Accepted : goal.returns-in-Accepted
-returns-in-Accepted c = search verdict-packs
+pub returns-in-Ok : goal.returns-in-Ok
+returns-in-Ok c = search verdict-packs
 
-pub returns-in-Refused : goal.returns-in-Refused
-returns-in-Refused c = search verdict-packs
+pub returns-in-Err : goal.returns-in-Err
+returns-in-Err c = search verdict-packs

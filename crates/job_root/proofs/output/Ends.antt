@@ -8,6 +8,8 @@ use lib.Dec.{leb}
 use lib.ListN.{length, take, drop, length-append}
 use lib.Seq.{sets, sets-eq, take_at}
 use borrow.Author.Tests.{leb-true}
+use Rattle.std.specs.Prelude.{Result, Ok, Err}
+use Rattle.std.proofs.Common.{inl, inr}
 use Rattle.answers.specs.Ask.{Trail}
 use Rattle.answers.specs.Resolve.{answer}
 use Rattle.rules.specs.Bytes.{Text}
@@ -18,6 +20,8 @@ use Rattle.rules.specs.Sheet.{records, texts, trail_size, trail_text_size, trail
 use Rattle.rules.specs.Jobs.{refused_with, sheet_for, handed_back}
 use Rattle.theory.specs.Layout.{both_true, length-records, length-texts, length-trail_records, length-trail_texts}
 use Rattle.theory.specs.Jobs.{handed-sheet}
+use Rattle.text_chars.specs.declared.Refusal.{Refusal}
+use Rattle.text_chars.specs.Cursor.{doc, refusal}
 use Rattle.sheet_kept.specs.Kept.{named, layout}
 use Rattle.sheet_sizes.specs.Clauses.{TableFitsIs}
 use Rattle.sheet_sizes.specs.declared.Sizes.{Sizes}
@@ -31,7 +35,6 @@ use Rattle.eval_trail.specs.declared.Progress.{Progress}
 use Rattle.job_results.specs.Answers.{Told, resolution_told, result_told}
 use Rattle.job_results.specs.declared.Resolution.{Resolution}
 use Rattle.job_inputs.specs.Buffers.Filled.{Begins, Holding}
-use Rattle.job_root.specs.declared.output.Table.{Table}
 use Rattle.job_root.specs.Output.Contracts.{room_c, JudgeIs, Judged, HandAsked, HandedBack, HandIs}
 
 -- ---- the tests
@@ -43,17 +46,17 @@ module _ (e : Extent) {w : Bool} (i : w ≡ within_c e) where
   pub texts-small : w ≡ true → e.out.text.0 ≤ 1099511627776
   texts-small y = let n = within-texts e (sym i ∙ y) in omega arith
 
-  pub judge-large : {t : ℕ} {room : Sizes} → w ≡ false → JudgeIs e t room Table.TooLarge
-  judge-large n = record { is = sym i ∙ n }
+  pub judge-large : {t : ℕ} {room : Sizes} → w ≡ false → JudgeIs e t room (Err (refusal 13 (doc 0)))
+  judge-large n = record { is = inl (refl, sym i ∙ n) }
 
   module _ {t : ℕ} {room : Sizes} {f : Bool} (k : TableFitsIs room t (sizes e.out.rec.0 e.out.text.0) f) (y : w ≡ true) where
-    pub judge-fits : f ≡ true → JudgeIs e t room Table.Fits
+    pub judge-fits : f ≡ true → JudgeIs e t room (Ok tt)
     unfolding room_c
     judge-fits z = record { is = (sym i ∙ y, sym k.is ∙ z) }
 
-    pub judge-full : f ≡ false → JudgeIs e t room Table.NoRoom
+    pub judge-full : f ≡ false → JudgeIs e t room (Err (refusal 14 (doc 0)))
     unfolding room_c
-    judge-full z = record { is = (sym i ∙ y, sym k.is ∙ z) }
+    judge-full z = record { is = inr (refl, sym i ∙ y, sym k.is ∙ z) }
 
 pub trail-small : {t : ℕ} → t ≤ max_room → t ≤ 1099511627776
 trail-small h = omega arith
@@ -64,8 +67,9 @@ pub ruleset smalls = (records-small, texts-small, trail-small)
 
 -- ---- what is asked where the table fits
 
-module _ (e : Extent) (b x : List ℕ) (p : Progress) {q : Table} (j : JudgeIs e p.text.0 (sizes (length b) (length x)) q) (z : q ≡ Table.Fits) where
-  fits : Judged e p.text.0 (sizes (length b) (length x)) Table.Fits
+module _ (e : Extent) (b x : List ℕ) (p : Progress) {q : Result (Unit {0}) Refusal} (j : JudgeIs e p.text.0 (sizes (length b) (length x)) q)
+    {u : Unit {0}} (z : q ≡ Ok u) where
+  fits : Judged e p.text.0 (sizes (length b) (length x)) (Ok u)
   fits = rw z at j.is
 
   fits_both : (leb e.out.rec.0 (length b) ≡ true) × (leb (p.text.0 + e.out.text.0) (length x) ≡ true)
@@ -90,8 +94,9 @@ module _ (e : Extent) (b x : List ℕ) (p : Progress) {q : Table} (j : JudgeIs e
 
 -- ---- the answers
 
-abbrev outcome : Extent → Progress → Resolution
-outcome e p = Resolution.Done p.begun (record { 0 = p.used.0 }) (record { 0 = e.out.rec.0 }) (record { 0 = p.text.0 + e.out.text.0 })
+abbrev outcome : Extent → Progress → Result Resolution Refusal
+outcome e p =
+    Ok (record { count = p.begun; trail = record { 0 = p.used.0 }; table = record { 0 = e.out.rec.0 }; text = record { 0 = p.text.0 + e.out.text.0 } })
 
 told_same : {n i j k i' j' k' : ℕ} → i ≡ i' → j ≡ j' → k ≡ k'
     → ◌≡◌ {A = Told} (record { number = 0; place = 0; count = n; trail = i; table = j; text = k })
@@ -110,7 +115,7 @@ nothing-held {trail} {b} {x} n = record {
 module _ (p : Progress) (b x : List ℕ) (S : Trail Answer) (trail : List ℕ) {room : List ℕ} {e : Extent} {key : ℕ → Text} {v : Value}
     (h : ValueIn key (λ _. Unit {0}) room e v) (t : p.text.0 ≡ trail_text_size S) where
   large-back : within_c e ≡ false
-      → HandedBack (handed_back (length b) (length x) (answer v S p.begun)) trail b x (Resolution.Refused 13 (record { 0 = 0 }))
+      → HandedBack (handed_back (length b) (length x) (answer v S p.begun)) trail b x (Err (refusal 13 (doc 0)))
   unfolding handed_back refused_with
   large-back over =
       let small : within_size v ≡ false = sym (value-within h) ∙ over in
@@ -127,7 +132,7 @@ module _ (p : Progress) (b x : List ℕ) (S : Trail Answer) (trail : List ℕ) {
     room-is = rw (room_c, table_fits, value-records h w, value-texts h w, t)
 
     full_back : room_c e p.text.0 (sizes (length b) (length x)) ≡ false
-        → HandedBack (handed_back (length b) (length x) (answer v S p.begun)) trail b x (Resolution.Refused 14 (record { 0 = 0 }))
+        → HandedBack (handed_back (length b) (length x) (answer v S p.begun)) trail b x (Err (refusal 14 (doc 0)))
     unfolding handed_back refused_with
     full_back over =
         let full : table_fits (length b) (length x) S v ≡ false = sym room-is ∙ over in
@@ -183,21 +188,21 @@ module _ (p : Progress) (b x : List ℕ) (S : Trail Answer) (trail : List ℕ) {
             };
           })
 
-module _ {room : List ℕ} (e : Extent) (p : Progress) (b x : List ℕ) {q : Table} (j : JudgeIs e p.text.0 (sizes (length b) (length x)) q) where
-  pub hand-large : q ≡ Table.TooLarge → HandIs room e p b b x x (Resolution.Refused 13 (record { 0 = 0 }))
-  hand-large z =
-      let n : Judged e p.text.0 (sizes (length b) (length x)) Table.TooLarge = rw z at j.is in
-      record { is = λ key v S trail rest more h u t l. large-back p b x S trail h t n; table_kept = refl; text-kept = refl }
+module _ {room : List ℕ} (e : Extent) (p : Progress) (b x : List ℕ) {q : Result (Unit {0}) Refusal} (j : JudgeIs e p.text.0 (sizes (length b) (length x)) q) where
+  pub hand-refused : {y : Refusal} → q ≡ Err y → HandIs room e p b b x x (Err y)
+  hand-refused {y} z =
+      let n : Judged e p.text.0 (sizes (length b) (length x)) (Err y) = rw z at j.is in
+      record { is = λ key v S trail rest more h u t l. back key v S trail h t n; table_kept = refl; text-kept = refl }
+    where
+      back : (key : ℕ → Text) (v : Value) (S : Trail Answer) (trail : List ℕ) (h : ValueIn key (λ _. Unit {0}) room e v) (t : p.text.0 ≡ trail_text_size S)
+          → Judged e p.text.0 (sizes (length b) (length x)) (Err y) → HandedBack (handed_back (length b) (length x) (answer v S p.begun)) trail b x (Err y)
+      back key v S trail h t (inl (a, n)) = rw a (large-back p b x S trail h t n)
+      back key v S trail h t (inr (a, w, n)) = rw a (full_back p b x S trail h t w n)
 
-  pub hand-full : q ≡ Table.NoRoom → HandIs room e p b b x x (Resolution.Refused 14 (record { 0 = 0 }))
-  hand-full z =
-      let n : Judged e p.text.0 (sizes (length b) (length x)) Table.NoRoom = rw z at j.is in
-      record { is = λ key v S trail rest more h u t l. full_back p b x S trail h t n.0 n.1; table_kept = refl; text-kept = refl }
-
-  pub hand-done : {a y : List ℕ} → q ≡ Table.Fits → LaidIs room e.out p.text.0 b a x y → length a ≡ length b → length y ≡ length x
+  pub hand-done : {u : Unit {0}} {a y : List ℕ} → q ≡ Ok u → LaidIs room e.out p.text.0 b a x y → length a ≡ length b → length y ≡ length x
       → HandIs room e p b a x y (outcome e p)
   hand-done z k m n =
       let f = fits e b x p j z in
       record { is = λ key v S trail rest more h u t l. sheet-back p b x S trail h t f.0 u l k f.1; table_kept = m; text-kept = n }
 
-pub ruleset hands = (hand-large, hand-full, hand-done)
+pub ruleset hands = (hand-refused, hand-done)

@@ -1,20 +1,20 @@
 use Rattle.job_check.proofs.trails.Trails.{trails}
 use Rattle.job_check.proofs.trails.check_trail.Goals as goal
 
-pub loop-used-init : goal.loop-used-init
-loop-used-init c = search trails
+pub loop-at-init : goal.loop-at-init
+loop-at-init c = search trails
 
 pub check_entry-requires : goal.check_entry-requires
 check_entry-requires c = search trails
 
-pub returns-in-Wrong : goal.returns-in-Wrong
-returns-in-Wrong c = search trails
+pub returns-in_err-at : goal.returns-in_err-at
+returns-in_err-at c = rw c.from_residual.ensures (search (trails, c.in_err-at.was))
 
-pub loop-used-smaller : goal.loop-used-smaller
-loop-used-smaller c = search trails
+pub loop-at-smaller : goal.loop-at-smaller
+loop-at-smaller c = search (trails, c.in_ok-at.was)
 
-pub loop-used-preserved : goal.loop-used-preserved
-loop-used-preserved c = search trails
+pub loop-at-preserved : goal.loop-at-preserved
+loop-at-preserved c = search (trails, c.in_ok-at.was)
 
 pub returns : goal.returns
 returns c = search trails
