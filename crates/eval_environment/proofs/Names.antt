@@ -17,6 +17,7 @@ use Rattle.text_environment.specs.Answers.{accepted-is}
 use Rattle.std.specs.Prelude.{Option as Maybe}
 use Rattle.text_environment.specs.declared.Parts.{Parts}
 use Rattle.text_chars.specs.Clash.{clash}
+use Rattle.text_chars.specs.declared.EnvAt.{EnvAt}
 use Rattle.text_chars.specs.declared.EnvLen.{EnvLen}
 use Rattle.eval_environment.specs.Clauses.{FindIs}
 use Rattle.eval_environment.specs.declared.Part.{Part}
