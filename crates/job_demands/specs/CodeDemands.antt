@@ -35,7 +35,6 @@ use Rattle.theory.specs.Micrometres.{Exact}
 use Rattle.theory.specs.Demands as demands
 use Rattle.theory.specs.Promises as promises
 use Rattle.text_chars.specs.Cursor.{refusal}
-use Rattle.text_chars.specs.declared.DocAt.{DocAt}
 use Rattle.text_chars.specs.declared.Refusal.{Refusal}
 use Rattle.text_chars.specs.Parts.{part_slice}
 use Rattle.text_lengths.specs.Micrometres.Contracts.{measured_of}

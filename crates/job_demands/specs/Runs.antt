@@ -4,7 +4,6 @@ use Rattle.std.proofs.Math.Path.{refl, ap}
 use Rattle.std.proofs.Common.{sym, ◌∙◌, arith}
 use Rattle.std.proofs.Math.Seq.{take-append_seam}
 use Rattle.text_chars.specs.Cursor.{refusal}
-use Rattle.text_chars.specs.declared.DocAt.{DocAt}
 use Rattle.text_chars.specs.declared.Refusal.{Refusal}
 use Rattle.answers.specs.Theory.Sound.{clash}
 use Rattle.rules.specs.Refusals.{document_of, offset_of, nowhere}
