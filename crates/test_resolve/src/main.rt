@@ -61,25 +61,18 @@ fn run_resolve(
 fn next_resolve(rt: &HostRuntime, document: &[u8], environment: &[u8]) -> io::Result<bool> {
     // a budget over the room is far over the limit
     let budget = test_cases::next_room(rt)?;
-    let trail = test_cases::next_room(rt)?;
-    let table = test_cases::next_room(rt)?;
-    let text = test_cases::next_room(rt)?;
-    let mut a = trail.bytes;
-    let mut b = table.bytes;
-    let mut c = text.bytes;
-    let n = trail.size;
-    let m = table.size;
-    let k = text.size;
-    let most = budget.size;
+    let mut trail = test_cases::next_room(rt)?;
+    let mut table = test_cases::next_room(rt)?;
+    let mut text = test_cases::next_room(rt)?;
     if text.there {
         run_resolve(
             rt,
             document,
             environment,
-            most as u64,
-            &mut a[..n],
-            &mut b[..m],
-            &mut c[..k],
+            budget.size as u64,
+            &mut trail.bytes[..trail.size],
+            &mut table.bytes[..table.size],
+            &mut text.bytes[..text.size],
         )?;
     }
     Ok(text.there)
@@ -90,14 +83,15 @@ fn next_check(rt: &HostRuntime, document: &[u8], environment: &[u8]) -> io::Resu
     let trail = test_cases::next_part(rt, true)?;
     let table = test_cases::next_part(rt, trail.there)?;
     let text = test_cases::next_part(rt, table.there)?;
-    let a = trail.bytes;
-    let b = table.bytes;
-    let c = text.bytes;
-    let n = trail.size;
-    let m = table.size;
-    let k = text.size;
     if text.there {
-        run_check(rt, document, environment, &a[..n], &b[..m], &c[..k])?;
+        run_check(
+            rt,
+            document,
+            environment,
+            &trail.bytes[..trail.size],
+            &table.bytes[..table.size],
+            &text.bytes[..text.size],
+        )?;
     }
     Ok(text.there)
 }
@@ -107,24 +101,24 @@ fn run_next(rt: &HostRuntime) -> io::Result<bool> {
     let job = test_cases::read_number(rt)?;
     let document = test_cases::next_part(rt, 0 <= job)?;
     let environment = test_cases::next_part(rt, document.there)?;
-    let a = document.bytes;
-    let b = environment.bytes;
-    let n = document.size;
-    let m = environment.size;
-    if environment.there {
-        if job == CHECK {
-            return next_check(rt, &a[..n], &b[..m]);
-        }
-        return next_resolve(rt, &a[..n], &b[..m]);
+    if !environment.there {
+        return Ok(false);
     }
-    Ok(false)
+    let document = &document.bytes[..document.size];
+    let environment = &environment.bytes[..environment.size];
+    if job == CHECK {
+        next_check(rt, document, environment)
+    } else {
+        next_resolve(rt, document, environment)
+    }
 }
 
 // A loop that is proved has to end, and nothing says that the input does: hence the count of turns.
 fn main(rt: HostRuntime) -> io::Result<()> {
-    let mut turns = u64::MAX;
-    while turns > 0 && run_next(&rt)? {
-        turns -= 1;
+    for _ in 0..u64::MAX {
+        if !run_next(&rt)? {
+            break;
+        }
     }
     Ok(())
 }
