@@ -92,9 +92,7 @@ fn path_between(
     ensures { BetweenIs s.now start.at.0 dollar.0 text.old text.new marks.new result }
 {
     let path = text_paths::elements(s, start, false, text, marks)?;
-    let next = close_reference(
-        s, path.next, path.count, path.empty, dollar, marks,
-    )?;
+    let next = close_reference(s, path.next, path.count, path.empty, dollar, marks)?;
     Ok(Between {
         count: path.count,
         next,

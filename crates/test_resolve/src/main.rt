@@ -61,18 +61,25 @@ fn run_resolve(
 fn next_resolve(rt: &HostRuntime, document: &[u8], environment: &[u8]) -> io::Result<bool> {
     // a budget over the room is far over the limit
     let budget = test_cases::next_room(rt)?;
-    let mut trail = test_cases::next_room(rt)?;
-    let mut table = test_cases::next_room(rt)?;
-    let mut text = test_cases::next_room(rt)?;
+    let trail = test_cases::next_room(rt)?;
+    let table = test_cases::next_room(rt)?;
+    let text = test_cases::next_room(rt)?;
+    let mut a = trail.bytes;
+    let mut b = table.bytes;
+    let mut c = text.bytes;
+    let n = trail.size;
+    let m = table.size;
+    let k = text.size;
+    let most = budget.size;
     if text.there {
         run_resolve(
             rt,
             document,
             environment,
-            budget.size as u64,
-            &mut trail.bytes[..trail.size],
-            &mut table.bytes[..table.size],
-            &mut text.bytes[..text.size],
+            most as u64,
+            &mut a[..n],
+            &mut b[..m],
+            &mut c[..k],
         )?;
     }
     Ok(text.there)
