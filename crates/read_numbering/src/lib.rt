@@ -59,7 +59,10 @@ pub fn number_items(table: &mut [u16], items: usize) -> Result<usize, Refusal>
 {
     let mut count = 0;
     for i in 0..items {
-        count = number_item(table, i, count)?;
+        match number_item(table, i, count) {
+            Err(e) => return Err(e),
+            Ok(next) => count = next,
+        }
     }
     Ok(count)
 }
