@@ -147,8 +147,10 @@ fn read_document(s: &[u8], table: &mut [u16], text: &mut [u8]) -> Result<Reading
         left: limits::NESTING_IN_ROOT,
         items: 0,
     };
-    let tree = read_tree(s, none, table, text)?;
-    number_tree(s, tree.items, table)
+    match read_tree(s, none, table, text) {
+        Err(e) => Err(e),
+        Ok(tree) => number_tree(s, tree.items, table),
+    }
 }
 
 /// Reads the inputs of a job, whatever they are: 1 first, where the job's other inputs do not fit, or of the document's length or of the
