@@ -24,7 +24,11 @@ pub fn read_task(
     ensures { TaskIs others_fit document.now environment.now
         table.old bytes.old table.new bytes.new result }
 {
-    let read = read_documents::read_inputs(others_fit, document, environment, table, bytes)?;
-    crate::prepare::prepare(table, bytes, read.items);
-    Ok(read)
+    match read_documents::read_inputs(others_fit, document, environment, table, bytes) {
+        Err(e) => Err(e),
+        Ok(read) => {
+            crate::prepare::prepare(table, bytes, read.items);
+            Ok(read)
+        }
+    }
 }
