@@ -76,7 +76,7 @@
  *     most DZ_LOOK_UP_STACK_MAX, and a thread's stack must have them free: threads
  *     of musl have 131,072 bytes unless more is asked for. This is measured, and
  *     not proved: the worst document found takes 466,168 bytes.
- * Needs. The archive needs memmove and memset of the C library, and nothing
+ * Needs. The archive needs memcpy and memset of the C library, and nothing
  *     else. It has no unwind tables: nothing can be thrown through it.
  */
 #ifndef DZINTRULO_H

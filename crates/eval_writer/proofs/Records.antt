@@ -1,11 +1,10 @@
 -- Laws of the functions that write one record.
 use mathlib.Core.Path.{◌≡◌, refl, sym, ap, ◌∙◌}
-use Prim.Native.Nat.{ℕ, ◌+◌, ◌-◌, ◌/◌, ◌%◌, ◌≤◌, ◌<◌}
-use mathlib.Core.List.{List, [], ◌∷◌, ◌++◌, append_assoc}
+use Prim.Native.Nat.{ℕ, suc, ◌+◌, ◌/◌, ◌%◌, ◌≤◌, ◌<◌}
+use mathlib.Core.List.{List, [], ◌∷◌, ◌++◌}
 use native.Mathlib.Omega.{arith}
-use lib.ListN.{length, set, take, drop, length-drop}
-use lib.Seq.{sets, sets-eq, set_out, take-set-lt, drop-set-lt, drop-drop, length-take-le}
-use borrow.Rule.Slice.PartMut.{put_mid}
+use lib.ListN.{length, get_or, set, take, drop, length-set, length-drop}
+use lib.Seq.{sets, length-sets, set_out, take-suc, get_or-drop, take-set-lt, drop-set-lt, length-take-le}
 use Rattle.rules.specs.Sheet.{two}
 use Rattle.sheet_kept.specs.InTurn.{extent}
 use Rattle.sheet_kept.specs.Sets.{sets-append}
@@ -48,20 +47,39 @@ pub ruleset put-laws = (put_in, put-out)
 
 -- ---- texts
 
-pub filled : (to at n : ℕ) (from b : List ℕ) {ys : List ℕ} → to + n ≤ length b → at + n ≤ length from → ys ≡ take (at + n - at) (drop at from)
-    → FilledIs to from at n b (put_mid to (to + n - to) b ys)
-filled to at n from b {ys} h l e =
-    let v = take n (drop at from) in
-    let z : to + n - to ≡ n = omega arith in
-    let y : at + n - at ≡ n = omega arith in
-    let m : length v ≡ n = length-take-le n (drop at from) (omega (arith, length-drop at from)) in
-    record {
-      is =
-          ap (λ (k : ℕ). put_mid to k b ys) z
-          ∙ ap (put_mid to n b) (e ∙ ap (λ (k : ℕ). take k (drop at from)) y)
-          ∙ ap (λ (r : List ℕ). take to b ++ (v ++ r)) (drop-drop n to b ∙ ap (λ (k : ℕ). drop (to + k) b) (sym m))
-          ∙ sym (append_assoc (take to b) v (drop (to + length v) b)) ∙ sym (sets-eq v b to (omega (arith, m)));
-    }
+pub record Filling (to : ℕ) (from : List ℕ) (at n : ℕ) (b a : List ℕ) (i : ℕ) : Type 0 where
+  pub is : a ≡ sets b to (take i (drop at from))
+  pub low : i ≤ n
+  pub len : length a ≡ length b
+
+module _ {to : ℕ} {from : List ℕ} {at n : ℕ} {b : List ℕ} where
+  pub filling-start : Filling to from at n b b 0
+  filling-start = record { is = refl; low = omega arith; len = refl }
+
+  module _ {a : List ℕ} {i : ℕ} (I : Filling to from at n b a i) where
+    pub filling_step : at + n ≤ length from → i < n → Filling to from at n b (set a (to + i) (get_or from (at + i) 0)) (i + 1)
+    filling_step l h =
+        let d = drop at from in
+        let k : i < length d = omega (arith, length-drop at from) in
+        let t : take (i + 1) d ≡ take i d ++ (get_or d i 0 ∷ []) = (let e : i + 1 ≡ suc i = omega arith in ap (λ (j : ℕ). take j d) e ∙ take-suc d i 0 k) in
+        let z : length (take i d) ≡ i = length-take-le i d (omega arith) in
+        record {
+          is =
+              ap (λ (l : List ℕ). set l (to + i) (get_or from (at + i) 0)) I.is
+              ∙ ap (λ (v : ℕ). set (sets b to (take i d)) (to + i) v) (sym (get_or-drop at from i 0))
+              ∙ ap (λ (j : ℕ). set (sets b to (take i d)) (to + j) (get_or d i 0)) (sym z)
+              ∙ sym (ap (sets b to) t ∙ sets-append b to (take i d) (get_or d i 0 ∷ []));
+          low = omega arith;
+          len = length-set a (to + i) (get_or from (at + i) 0) ∙ I.len;
+        }
+
+    pub filling-end : n ≤ i → FilledIs to from at n b a
+    filling-end h = let e : i ≡ n = omega (arith, I.low) in record { is = I.is ∙ ap (λ (j : ℕ). sets b to (take j (drop at from))) e }
+
+    pub filling-in : to + n ≤ length b → i < n → to + i < length a
+    filling-in l h = omega (arith, ap length I.is, length-sets b to (take i (drop at from)))
+
+pub ruleset fill-laws = (filling-start, filling_step, filling-end, filling-in)
 
 -- ---- one byte
 

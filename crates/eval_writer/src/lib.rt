@@ -80,7 +80,9 @@ pub fn fill(out: &mut [u8], to: usize, from: &[u8], at: usize, n: usize)
     requires { (to + n ≤ length out.old) × (at + n ≤ length from.now) }
     ensures { FilledIs to from.now at n out.old out.new }
 {
-    out[to..to + n].copy_from_slice(&from[at..at + n]);
+    for i in 0..n {
+        out[to + i] = from[at + i];
+    }
 }
 
 // ---- records with their texts

@@ -1,3 +1,4 @@
 pub mod Sames
 pub mod Encodes
+pub mod Copies
 pub mod Texts

@@ -56,9 +56,12 @@ pub fn copy(s: &[u8], from: DocAt, to: DocAt, out: &mut [u8]) -> usize
     requires { (from.0 ≤ to.0) × (to.0 ≤ length s.now) × (to.0 - from.0 ≤ length out.old) }
     ensures { WriteIs (slice from.0 to.0 s.now) out.old out.new result }
 {
-    let part = &s[from.0..to.0];
-    out[..part.len()].copy_from_slice(part);
-    part.len()
+    let start = from.0;
+    let n = to.0 - start;
+    for i in 0..n {
+        out[i] = s[start + i];
+    }
+    n
 }
 
 // How long the text is that the text part has at a place: as long as is asked for, or up to its end.
