@@ -4,7 +4,7 @@
 
 ghost use Rattle.std.specs.Prelude.{◌≡◌};
 ghost use Rattle.rules.specs.Jobs.{record_length, length_job};
-ghost use Rattle.text_lengths.specs.Micrometres.Contracts.{measured_of};
+ghost use Rattle.text_lengths.specs.Micrometres.Contracts.{measured_of, MeasuredIs};
 ghost use Rattle.job_length.specs.Clauses.{WholeTable};
 ghost use Rattle.job_length.specs.Packed.{packed_length};
 
@@ -21,7 +21,7 @@ const STRING: u32 = kinds::STRING as u32;
 // The length that the record at a table's start refers to.
 fn record_length(table: &[u8], text: &[u8]) -> Result<u32, Refusal>
     requires { WholeTable table.now text.now }
-    ensures { measured_of result ≡ record_length table.now text.now }
+    ensures { MeasuredIs (record_length table.now text.now) result }
 {
     let kind = record_byte(table, RecAt(0));
     if kind < NUMBER {
@@ -37,7 +37,7 @@ fn record_length(table: &[u8], text: &[u8]) -> Result<u32, Refusal>
 
 /// The length that a looked-up value writes, in whole micrometres: what the rules of the job give, for any bytes.
 pub fn length(table: &[u8], text: &[u8]) -> Result<u32, Refusal>
-    ensures { measured_of result ≡ length_job table.now text.now }
+    ensures { MeasuredIs (length_job table.now text.now) result }
 {
     if limits::ROOM < table.len() {
         return Err(no_length(refusals::BAD_INPUT));

@@ -17,7 +17,7 @@ use Rattle.theory.specs.TableSteps.{RecordAt, plain_at, text-at, container-at, m
 use Rattle.theory.specs.LookUpSteps.{named-nil, named_none, named-next}
 use Rattle.theory.specs.Tables.{value-forward}
 use Rattle.theory.specs.LookUps.{named-whole}
-use Rattle.rules_profile.specs.Profile.{thousandth, no_profile, profile, unit, plate, min, max, text_of_kind, text_named}
+use Rattle.rules_profile.specs.Profile.{Profile, thousandth, no_profile, profile, unit, plate, min, max, text_of_kind, text_named}
 use Rattle.rules_profile.specs.Profile.{edition_of, edition_named, step_of, bare_length, written_length}
 use Rattle.rules_profile.specs.Profile.{limits_of, first_edition, second_edition, by_edition, profile_job}
 use Rattle.text_chars.specs.Cursor.{doc, refusal, ByteIs}
@@ -31,10 +31,16 @@ use Rattle.text_profiles.specs.Clauses.{max_length, edition_as, length_as, Lengt
 use Rattle.text_profiles.specs.declared.Edition as code
 use Rattle.std.specs.Prelude.{Option as Maybe}
 use Rattle.job_length.specs.Clauses.{WholeTable}
-use Rattle.job_profile.specs.Clauses.{ProfileRead, bounds, ValueAt, TextKind, text_or, TextIs, profile_of}
+use Rattle.job_profile.specs.Clauses.{ProfileRead, bounds, ValueAt, TextKind, text_or, TextIs, profile_of, ProfileIs}
 use Rattle.job_profile.specs.Editions.{profile-long, profile-not-whole, profile-editions}
 use Rattle.job_profile.specs.Packed.{packed_profile, Roomy, Packable}
 use Rattle.job_profile.specs.declared.Limits.{Limits}
+
+-- ---- a refusal
+
+-- one that has no place
+no-profile : {p : Profile} {z : Refusal} {n : ℕ} → z ≡ refusal n (doc 0) → profile_of (Err (refusal n (doc 0))) ≡ p → ProfileIs p (Err z)
+no-profile e h = rw e (record { is = h; placed = refl })
 
 -- ---- places
 
@@ -185,23 +191,23 @@ written-or (some t) = refl
 -- ---- both limits
 
 module _ (edition : ℕ) (low high : Maybe ℕ) where
-  pub no-minimum : low ≡ None → profile_of (Err (refusal 41 (doc 0))) ≡ limits_of edition (length_as low) (length_as high)
+  pub no-minimum : low ≡ None → {z : Refusal} → z ≡ refusal 41 (doc 0) → ProfileIs (limits_of edition (length_as low) (length_as high)) (Err z)
   unfolding limits_of
-  no-minimum e = rw (e, limits_of)
+  no-minimum e q = no-profile q (rw (e, limits_of))
 
   module _ {a : ℕ} (e : low ≡ Some a) where
-    pub no-maximum : high ≡ None → profile_of (Err (refusal 42 (doc 0))) ≡ limits_of edition (length_as low) (length_as high)
+    pub no-maximum : high ≡ None → {z : Refusal} → z ≡ refusal 42 (doc 0) → ProfileIs (limits_of edition (length_as low) (length_as high)) (Err z)
     unfolding limits_of
-    no-maximum f = rw (e, f, limits_of)
+    no-maximum f q = no-profile q (rw (e, f, limits_of))
 
     module _ {b : ℕ} (f : high ≡ Some b) where
-      pub above : b < a → profile_of (Err (refusal 43 (doc 0))) ≡ limits_of edition (length_as low) (length_as high)
+      pub above : b < a → {z : Refusal} → z ≡ refusal 43 (doc 0) → ProfileIs (limits_of edition (length_as low) (length_as high)) (Err z)
       unfolding limits_of
-      above h = rw (e, f, lt-ltb b a h, limits_of)
+      above h q = no-profile q (rw (e, f, lt-ltb b a h, limits_of))
 
-      pub in_order : a ≤ b → profile_of (Ok (bounds edition a b)) ≡ limits_of edition (length_as low) (length_as high)
+      pub in_order : a ≤ b → ProfileIs (limits_of edition (length_as low) (length_as high)) (Ok (bounds edition a b))
       unfolding limits_of
-      in_order h = rw (e, f, le-ltb b a h, limits_of)
+      in_order h = record { is = rw (e, f, le-ltb b a h, limits_of); placed = tt }
 
 pub ruleset limits = (no-minimum, no-maximum, above, in_order)
 
@@ -215,9 +221,9 @@ module _ (table text : List ℕ) {u : Text} (k : TextIs (text_of_kind table text
       s.is ∙ ap (λ (t : Text). step_of (some t)) k.is ∙ step-or (text_of_kind table text 5 (member_at table text unit 0))
       ∙ ap (λ (o : Option ℕ). step_of (text_of_kind table text 5 o)) (sym (named-one table text unit 0))
 
-  pub first-no-unit : l ≡ None → profile_of (Err (refusal 40 (doc 0))) ≡ first_edition table text
+  pub first-no-unit : l ≡ None → {z : Refusal} → z ≡ refusal 40 (doc 0) → ProfileIs (first_edition table text) (Err z)
   unfolding first_edition
-  first-no-unit e = let z : none ≡ step_of (text_named table text 5 (unit ∷ [])) = rw e at step_is in sym (rw (sym z, first_edition))
+  first-no-unit e q = let i : none ≡ step_of (text_named table text 5 (unit ∷ [])) = rw e at step_is in no-profile q (sym (rw (sym i, first_edition)))
 
   module _ {step : ℕ} (e : l ≡ Some step) where
     pub step_small : step ≤ thousandth
@@ -226,7 +232,7 @@ module _ (table text : List ℕ) {u : Text} (k : TextIs (text_of_kind table text
     module _ {a b : Text} (i : TextIs (text_named table text 4 (plate ∷ min ∷ [])) a)
         (j : TextIs (text_named table text 4 (plate ∷ max ∷ [])) b) {low high : Maybe ℕ}
         (x : LengthIs (bare_length step (some a)) max_length low) (y : LengthIs (bare_length step (some b)) max_length high) where
-      pub first-limits : (r : ProfileRead) → profile_of r ≡ limits_of 1 (length_as low) (length_as high) → profile_of r ≡ first_edition table text
+      pub first-limits : (r : ProfileRead) → ProfileIs (limits_of 1 (length_as low) (length_as high)) r → ProfileIs (first_edition table text) r
       unfolding first_edition
       first-limits r q =
           let z : some step ≡ step_of (text_named table text 5 (unit ∷ [])) = rw e at step_is in
@@ -236,25 +242,29 @@ module _ (table text : List ℕ) {u : Text} (k : TextIs (text_of_kind table text
           x.is ∙ ap (λ (t : Text). bare_length step (some t)) i.is ∙ bare-or step least in
           let maximum : length_as high ≡ bare_length step most =
           y.is ∙ ap (λ (t : Text). bare_length step (some t)) j.is ∙ bare-or step most in
-          q ∙ ap (λ (o : Option ℕ). limits_of 1 o (length_as high)) minimum
-          ∙ ap (λ (o : Option ℕ). limits_of 1 (bare_length step least) o) maximum
-          ∙ sym (rw (sym z, first_edition))
+          record {
+            is =
+                q.is ∙ ap (λ (o : Option ℕ). limits_of 1 o (length_as high)) minimum
+                ∙ ap (λ (o : Option ℕ). limits_of 1 (bare_length step least) o) maximum
+                ∙ sym (rw (sym z, first_edition));
+            placed = q.placed;
+          }
 
 pub ruleset firsts = (first-no-unit, first-limits)
 
 -- ---- edition 2
 
 module _ (table text : List ℕ) {r : End} (k : EndIs (member_at table text unit 0) (0 + 1) (past_member table) r) where
-  pub second-unit : {place : RecAt} → r ≡ Some place → profile_of (Err (refusal 40 (doc 0))) ≡ second_edition table text
+  pub second-unit : {place : RecAt} → r ≡ Some place → {z : Refusal} → z ≡ refusal 40 (doc 0) → ProfileIs (second_edition table text) (Err z)
   unfolding second_edition
-  second-unit {place} e =
-      let z : value_named table text (unit ∷ []) 0 ≡ some place.0 = named-one table text unit 0 ∙ member-some table text unit 0 k e in
-      sym (rw (z, second_edition))
+  second-unit {place} e q =
+      let i : value_named table text (unit ∷ []) 0 ≡ some place.0 = named-one table text unit 0 ∙ member-some table text unit 0 k e in
+      no-profile q (sym (rw (i, second_edition)))
 
   module _ (e : r ≡ None) {a b : Text} (i : TextIs (text_named table text 5 (plate ∷ min ∷ [])) a)
       (j : TextIs (text_named table text 5 (plate ∷ max ∷ [])) b) {low high : Maybe ℕ} (x : LengthIs (written_length (some a)) max_length low)
       (y : LengthIs (written_length (some b)) max_length high) where
-    pub second-limits : (p : ProfileRead) → profile_of p ≡ limits_of 2 (length_as low) (length_as high) → profile_of p ≡ second_edition table text
+    pub second-limits : (p : ProfileRead) → ProfileIs (limits_of 2 (length_as low) (length_as high)) p → ProfileIs (second_edition table text) p
     unfolding second_edition
     second-limits p q =
         let z : value_named table text (unit ∷ []) 0 ≡ none = named-one table text unit 0 ∙ member-none table text unit 0 k e in
@@ -262,26 +272,31 @@ module _ (table text : List ℕ) {r : End} (k : EndIs (member_at table text unit
         let most = text_named table text 5 (plate ∷ max ∷ []) in
         let minimum : length_as low ≡ written_length least = x.is ∙ ap (λ (t : Text). written_length (some t)) i.is ∙ written-or least in
         let maximum : length_as high ≡ written_length most = y.is ∙ ap (λ (t : Text). written_length (some t)) j.is ∙ written-or most in
-        q ∙ ap (λ (o : Option ℕ). limits_of 2 o (length_as high)) minimum ∙ ap (λ (o : Option ℕ). limits_of 2 (written_length least) o) maximum
-        ∙ sym (rw (z, second_edition))
+        record {
+          is =
+              q.is ∙ ap (λ (o : Option ℕ). limits_of 2 o (length_as high)) minimum
+              ∙ ap (λ (o : Option ℕ). limits_of 2 (written_length least) o) maximum
+              ∙ sym (rw (z, second_edition));
+          placed = q.placed;
+        }
 
 pub ruleset seconds = (second-unit, second-limits)
 
 -- ---- the job
 
 module _ (table text : List ℕ) where
-  pub long-table : max_room < length table → profile_of (Err (refusal 1 (doc 0))) ≡ profile_job table text
+  pub long-table : max_room < length table → {z : Refusal} → z ≡ refusal 1 (doc 0) → ProfileIs (profile_job table text) (Err z)
   unfolding no_profile profile_job
-  long-table l = sym (profile-long first_edition second_edition table text (λ a b. absurd (omega arith)))
+  long-table l q = no-profile q (sym (profile-long first_edition second_edition table text (λ a b. absurd (omega arith))))
 
-  pub long-text : max_room < length text → profile_of (Err (refusal 1 (doc 0))) ≡ profile_job table text
+  pub long-text : max_room < length text → {z : Refusal} → z ≡ refusal 1 (doc 0) → ProfileIs (profile_job table text) (Err z)
   unfolding no_profile profile_job
-  long-text l = sym (profile-long first_edition second_edition table text (λ a b. absurd (omega arith)))
+  long-text l q = no-profile q (sym (profile-long first_edition second_edition table text (λ a b. absurd (omega arith))))
 
   module _ (short : length table ≤ max_room) (short-text : length text ≤ max_room) {w : Bool} (j : w ≡ is_whole table (length text)) where
-    pub not-whole : w ≡ false → profile_of (Err (refusal 15 (doc 0))) ≡ profile_job table text
+    pub not-whole : w ≡ false → {z : Refusal} → z ≡ refusal 15 (doc 0) → ProfileIs (profile_job table text) (Err z)
     unfolding no_profile profile_job
-    not-whole e = sym (profile-not-whole first_edition second_edition table text short short-text (sym j ∙ e))
+    not-whole e q = no-profile q (sym (profile-not-whole first_edition second_edition table text short short-text (sym j ∙ e)))
 
     module _ (e : w ≡ true) {s : Text} (k : TextIs (text_of_kind table text 4 (member_at table text profile 0)) s) (x : Maybe code.Edition)
         (h : edition_as x ≡ edition_of (some s)) where
@@ -293,19 +308,19 @@ module _ (table text : List ℕ) where
           (sym (h ∙ ap (λ (t : Text). edition_of (some t)) k.is ∙ edition-or (text_of_kind table text 4 (member_at table text profile 0))
           ∙ ap (λ (o : Option ℕ). edition_of (text_of_kind table text 4 o)) (sym (named-one table text profile 0))))
 
-      pub of-first : (r : ProfileRead) {y : code.Edition} → x ≡ Some y → y ≡ code.Edition.First → profile_of r ≡ first_edition table text
-          → profile_of r ≡ profile_job table text
+      pub of-first : (r : ProfileRead) {y : code.Edition} → x ≡ Some y → y ≡ code.Edition.First → ProfileIs (first_edition table text) r
+          → ProfileIs (profile_job table text) r
       unfolding by_edition
-      of-first r z f q = q ∙ sym (by-edition ∙ rw (z, f))
+      of-first r z f q = record { is = q.is ∙ sym (by-edition ∙ rw (z, f)); placed = q.placed }
 
-      pub of-second : (r : ProfileRead) {y : code.Edition} → x ≡ Some y → y ≡ code.Edition.Second → profile_of r ≡ second_edition table text
-          → profile_of r ≡ profile_job table text
+      pub of-second : (r : ProfileRead) {y : code.Edition} → x ≡ Some y → y ≡ code.Edition.Second → ProfileIs (second_edition table text) r
+          → ProfileIs (profile_job table text) r
       unfolding by_edition
-      of-second r z f q = q ∙ sym (by-edition ∙ rw (z, f))
+      of-second r z f q = record { is = q.is ∙ sym (by-edition ∙ rw (z, f)); placed = q.placed }
 
-      pub of_none : x ≡ None → profile_of (Err (refusal 39 (doc 0))) ≡ profile_job table text
+      pub of_none : x ≡ None → {z : Refusal} → z ≡ refusal 39 (doc 0) → ProfileIs (profile_job table text) (Err z)
       unfolding by_edition no_profile
-      of_none z = sym (by-edition ∙ rw z)
+      of_none i q = no-profile q (sym (by-edition ∙ rw i))
 
 pub ruleset jobs = (long-table, long-text, not-whole, of-first, of-second, of_none)
 

@@ -36,3 +36,12 @@ pub record TextIs (o : Option Text) (r : Text) : Type 0 where
 abbrev pub profile_of : ProfileRead → profile.Profile
 profile_of (Ok v) = record { number = 0; edition = v.edition; minimum = v.minimum; maximum = v.maximum }
 profile_of (Err e) = record { number = e.number; edition = 0; minimum = 0; maximum = 0 }
+
+-- a refusal has no place
+abbrev pub Placed : ProfileRead → Type 0
+Placed (Ok v) = Unit {0}
+Placed (Err e) = e.place.0 ≡ 0
+
+pub record ProfileIs (p : profile.Profile) (r : ProfileRead) : Type 0 where
+  pub is : profile_of r ≡ p
+  pub placed : Placed r

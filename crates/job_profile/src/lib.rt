@@ -7,12 +7,13 @@ ghost use Rattle.rules.specs.LookUp.{member_at};
 ghost use Rattle.rules_profile.specs.Profile.{plate, text_of_kind, text_named, limits_of, first_edition, second_edition, profile_job};
 ghost use Rattle.text_profiles.specs.Clauses.{length_as};
 ghost use Rattle.job_length.specs.Clauses.{WholeTable};
-ghost use Rattle.job_profile.specs.Clauses.{ValueAt, TextKind, TextIs, profile_of};
+ghost use Rattle.job_profile.specs.Clauses.{ValueAt, TextKind, TextIs, profile_of, ProfileIs};
 ghost use Rattle.job_profile.specs.Packed.{Packable, packed_profile};
 
 use codes::{kinds, limits, profiles, refusals};
 use sheet_records::kinds::pair_at;
-use text_chars::{DocAt, RecAt, Refusal, TextLen, record_byte};
+use text_chars::{RecAt, Refusal, TextLen, record_byte};
+use text_lengths::micrometres::no_length as no_profile;
 use text_profiles::{Edition, bare_length, written_length};
 
 /// A table's profile: its edition, and both limits in ten-thousandths of a millimetre.
@@ -61,24 +62,15 @@ fn plate_text<'a>(table: &[u8], text: &'a [u8], key: &[u8], kind: u32) -> &'a [u
 
 // Both limits of an edition, of which each may be missing.
 fn limits_of(edition: u8, low: Option<u32>, high: Option<u32>) -> Result<Limits, Refusal>
-    ensures { profile_of result ≡ limits_of edition (length_as low) (length_as high) }
+    ensures { ProfileIs (limits_of edition (length_as low) (length_as high)) result }
 {
     match low {
-        None => Err(Refusal {
-            number: refusals::BAD_MINIMUM,
-            place: DocAt(0),
-        }),
+        None => Err(no_profile(refusals::BAD_MINIMUM)),
         Some(minimum) => match high {
-            None => Err(Refusal {
-                number: refusals::BAD_MAXIMUM,
-                place: DocAt(0),
-            }),
+            None => Err(no_profile(refusals::BAD_MAXIMUM)),
             Some(maximum) => {
                 if maximum < minimum {
-                    return Err(Refusal {
-                        number: refusals::MINIMUM_ABOVE_MAXIMUM,
-                        place: DocAt(0),
-                    });
+                    return Err(no_profile(refusals::MINIMUM_ABOVE_MAXIMUM));
                 }
                 Ok(Limits {
                     edition,
@@ -93,13 +85,10 @@ fn limits_of(edition: u8, low: Option<u32>, high: Option<u32>) -> Result<Limits,
 // Edition 1: bare lengths, by `unit`.
 fn first_edition(table: &[u8], text: &[u8]) -> Result<Limits, Refusal>
     requires { WholeTable table.now text.now }
-    ensures { profile_of result ≡ first_edition table.now text.now }
+    ensures { ProfileIs (first_edition table.now text.now) result }
 {
     match text_profiles::step_of(member_text(table, text, b"unit", STRING, RecAt(0))) {
-        None => Err(Refusal {
-            number: refusals::BAD_UNIT,
-            place: DocAt(0),
-        }),
+        None => Err(no_profile(refusals::BAD_UNIT)),
         Some(step) => {
             let low = bare_length(plate_text(table, text, b"min", NUMBER), step);
             let high = bare_length(plate_text(table, text, b"max", NUMBER), step);
@@ -111,13 +100,10 @@ fn first_edition(table: &[u8], text: &[u8]) -> Result<Limits, Refusal>
 // Edition 2: no `unit`, and lengths with their own.
 fn second_edition(table: &[u8], text: &[u8]) -> Result<Limits, Refusal>
     requires { WholeTable table.now text.now }
-    ensures { profile_of result ≡ second_edition table.now text.now }
+    ensures { ProfileIs (second_edition table.now text.now) result }
 {
     match sheet_records::member(table, text, b"unit", RecAt(0)) {
-        Some(_) => Err(Refusal {
-            number: refusals::BAD_UNIT,
-            place: DocAt(0),
-        }),
+        Some(_) => Err(no_profile(refusals::BAD_UNIT)),
         None => {
             let low = written_length(plate_text(table, text, b"min", STRING));
             let high = written_length(plate_text(table, text, b"max", STRING));
@@ -128,34 +114,22 @@ fn second_edition(table: &[u8], text: &[u8]) -> Result<Limits, Refusal>
 
 /// The profile of a table: what the rules of the job give, for any bytes.
 pub fn profile(table: &[u8], text: &[u8]) -> Result<Limits, Refusal>
-    ensures { profile_of result ≡ profile_job table.now text.now }
+    ensures { ProfileIs (profile_job table.now text.now) result }
 {
     if limits::ROOM < table.len() {
-        return Err(Refusal {
-            number: refusals::BAD_INPUT,
-            place: DocAt(0),
-        });
+        return Err(no_profile(refusals::BAD_INPUT));
     }
     if limits::ROOM < text.len() {
-        return Err(Refusal {
-            number: refusals::BAD_INPUT,
-            place: DocAt(0),
-        });
+        return Err(no_profile(refusals::BAD_INPUT));
     }
     if sheet_records::is_whole(table, TextLen(text.len())) {
         match text_profiles::edition_of(member_text(table, text, b"profile", NUMBER, RecAt(0))) {
             Some(Edition::First) => first_edition(table, text),
             Some(Edition::Second) => second_edition(table, text),
-            None => Err(Refusal {
-                number: refusals::BAD_PROFILE,
-                place: DocAt(0),
-            }),
+            None => Err(no_profile(refusals::BAD_PROFILE)),
         }
     } else {
-        Err(Refusal {
-            number: refusals::NOT_A_TABLE,
-            place: DocAt(0),
-        })
+        Err(no_profile(refusals::NOT_A_TABLE))
     }
 }
 
