@@ -19,18 +19,27 @@ use Rattle.text_scan.specs.Scan.{SeenIs}
 abbrev beyond : Cursor → Step
 beyond c = record { ch = no_character; next = c }
 
+module _ {s : List ℕ} {at : ℕ} {r : Option Step} (h : StepIs s at r) where
+  pub seen-char : {t : Step} → r ≡ Some t → SeenIs s at t
+  unfolding step_at
+  seen-char {t} e =
+      let m : (at < length s) × (at < t.next.at.0) × (t.next.at.0 ≤ length s) = rw e at h.moved in
+      let q = rw (lt-ltb at (length s) m.0) at (sym e ∙ h.is) in
+      let i : t ≡ record { ch = character_at s at; next = cur (next_place s at) } = cc in
+      record { is = ap (λ (z : Step). z.ch) i; next = ap (λ (z : Step). z.next.at.0) i; forward = omega arith; inside = m.2 }
+
+  pub seen_end : {c : Cursor} → r ≡ None → at ≡ c.at.0 → c.at.0 ≤ length s → SeenIs s at (beyond c)
+  unfolding next_place
+  seen_end {c} e i l =
+      let m : length s ≤ at = rw e at h.moved in
+      record { is = sym (character-past s at m); next = omega arith; forward = omega arith; inside = l }
+
 module _ {s : List ℕ} {c : Cursor} (l : c.at.0 ≤ length s) where
   pub seen_at : (r : Option Step) {q : Step} → StepIs s c.at.0 r → q ≡ unwrap_or r (beyond c) → SeenIs s c.at.0 q
-  unfolding step_at next_place
-  seen_at (Some t) h e =
-      let m : (c.at.0 < length s) × (c.at.0 < t.next.at.0) × (t.next.at.0 ≤ length s) = h.moved in
-      let q = rw (lt-ltb c.at.0 (length s) m.0) at h.is in
-      let i : t ≡ record { ch = character_at s c.at.0; next = cur (next_place s c.at.0) } = cc in
-      rw e
-      (record { is = ap (λ (z : Step). z.ch) i; next = ap (λ (z : Step). z.next.at.0) i; forward = omega arith; inside = m.2 })
-  seen_at None h e =
-      let m : length s ≤ c.at.0 = h.moved in
-      rw e (record { is = sym (character-past s c.at.0 m); next = omega arith; forward = omega arith; inside = l })
+  seen_at (Some t) h e = rw e (seen-char h refl)
+  seen_at None h e = rw e (seen_end h refl refl l)
+
+pub ruleset looks = (seen-char, seen_end)
 
 -- ---- a character and its byte
 
