@@ -6,7 +6,7 @@ ghost use Rattle.eval_pieces.specs.Clauses.{PieceCase, Inside};
 
 use codes::refusals;
 use eval_concat::Join;
-use eval_concat::steps::JoinStep;
+use eval_concat::steps::{JoinStep, step_of};
 use eval_concat::text::{join_nothing, join_text};
 use eval_concat_arrays::join_one;
 use eval_concat_objects::join_objects;
@@ -32,13 +32,9 @@ pub fn join_piece(
     match piece {
         Piece::Text { start, size } => {
             let end = start.0 + size.0;
-            let joined = join_text(room, table, bytes, &env[start.0..end], j, i)?;
-            Ok(JoinStep::So(joined))
+            step_of(join_text(room, table, bytes, &env[start.0..end], j, i))
         }
-        Piece::Undefined => {
-            let joined = join_nothing(room, table, bytes, j, i)?;
-            Ok(JoinStep::So(joined))
-        }
+        Piece::Undefined => step_of(join_nothing(room, table, bytes, j, i)),
         Piece::One { top, layer } => { join_one(table, bytes, work, base, room, top, layer, j, i) }
         Piece::Merged { lo, hi } => join_objects(table, bytes, work, base, room, lo, hi, j, i),
         Piece::Needs(b) => Ok(JoinStep::Needs(b)),

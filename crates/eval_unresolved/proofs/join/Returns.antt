@@ -1,5 +1,5 @@
 -- A law for each place where the function returns.
-use mathlib.Core.Path.{◌≡◌, refl, sym, ap, ◌∙◌}
+use mathlib.Core.Path.{◌≡◌, refl, sym, ◌∙◌}
 use Prim.Native.Nat.{ℕ, ◌+◌, ◌-◌, ◌^◌, ◌≤◌, ◌<◌}
 use mathlib.Core.List.{List}
 use Rattle.std.specs.Prelude.{Ok, Err}
@@ -19,7 +19,6 @@ use Rattle.text_chars.specs.Cursor.{refusal}
 use Rattle.text_chars.specs.declared.DocAt.{DocAt}
 use Rattle.text_chars.specs.declared.EnvAt.{EnvAt}
 use Rattle.text_chars.specs.declared.EnvLen.{EnvLen}
-use Rattle.text_chars.specs.declared.Refusal.{Refusal}
 use Rattle.eval_stack.specs.Model.{entries}
 use Rattle.eval_memory.specs.Finished.{Memory}
 use Rattle.eval_concat.specs.Clauses.{TextJoinedIs, NothingIs}
@@ -28,7 +27,7 @@ use Rattle.eval_concat.specs.Model.{Joined}
 use Rattle.eval_state.specs.Memories.{answers_of}
 use Rattle.eval_pieces.specs.Clauses.{MergedOf, PieceCase, Inside}
 use Rattle.eval_pieces.specs.declared.Piece.{Piece}
-use Rattle.eval_concat.specs.Steps.Contracts.{Stepped, step_of, StepOfIs, JoinAsked, JoinStepIs}
+use Rattle.eval_concat.specs.Steps.Contracts.{Stepped, StepOfIs, JoinAsked, JoinStepIs}
 use Rattle.eval_concat.specs.declared.steps.JoinStep.{JoinStep}
 use Rattle.eval_concat_arrays.specs.Clauses.{OneJoinedIs}
 use Rattle.eval_concat_arrays.specs.Steps.{gap-asked, undefined-step, missing-step, refused-step, scalar-step, text-grows, nothing-grows}
@@ -88,7 +87,7 @@ module _ (E : List ℕ) {T : List ℕ} {base i : ℕ} {j : Join} {w b : List ℕ
       recase (λ M known g C. let y : PieceCase M known E w g (Piece.Merged lo hi) = rw z at (case M known g C) in y) s
 
   module _ {B : List ℕ} (A : JoinAsked B w b base i j) where
-    piece-text : {a : List ℕ} {r : Stepped} {start : EnvAt} {size : EnvLen} {q : Joined} → piece ≡ Piece.Text start size
+    pub piece-text : {a : List ℕ} {r : Stepped} {start : EnvAt} {size : EnvLen} {q : Joined} → piece ≡ Piece.Text start size
         → TextJoinedIs T B i (take (start.0 + size.0 - start.0) (drop start.0 E)) j b a q → StepOfIs q r → length a ≡ length b
         → JoinStepIs T base i j Case w w B B b a r
     unfolding scalar_text
@@ -107,7 +106,7 @@ module _ (E : List ℕ) {T : List ℕ} {base i : ℕ} {j : Join} {w b : List ℕ
               rw s.is (scalar-step G a A.whole (string (slice f e E)) q p y);
         }
 
-    piece-undefined : {a : List ℕ} {r : Stepped} {q : Joined} → piece ≡ Piece.Undefined → NothingIs T B i j b a q → StepOfIs q r
+    pub piece-undefined : {a : List ℕ} {r : Stepped} {q : Joined} → piece ≡ Piece.Undefined → NothingIs T B i j b a q → StepOfIs q r
         → length a ≡ length b → JoinStepIs T base i j Case w w B B b a r
     piece-undefined {a} {r} {q} z m s k = record {
       left = record { below = λ n u v. refl; len = refl };
@@ -145,18 +144,3 @@ module _ (E : List ℕ) {T : List ℕ} {base i : ℕ} {j : Join} {w b : List ℕ
           let p : g ≡ refused (placed 9 at.0) = rw z at (case (answers_of key items T B) (lookup S) g C) in
           refused-step G b 9 at.0 p;
     }
-
-    module _ {a : List ℕ} {q : Joined} (l : length a ≡ length b) where
-      module _ {start : EnvAt} {size : EnvLen} (z : piece ≡ Piece.Text start size) (m : TextJoinedIs T B i (take (start.0 + size.0 - start.0) (drop start.0 E)) j b a q) where
-        pub text-so : {k : Join} → q ≡ Ok k → JoinStepIs T base i j Case w w B B b a (Ok (JoinStep.So k))
-        text-so e = piece-text z m (record { is = sym (ap step_of e) }) l
-
-        pub text-refused : {e : Refusal} → q ≡ Err e → JoinStepIs T base i j Case w w B B b a (Err e)
-        text-refused e = piece-text z m (record { is = sym (ap step_of e) }) l
-
-      module _ (z : piece ≡ Piece.Undefined) (m : NothingIs T B i j b a q) where
-        pub nothing-so : {k : Join} → q ≡ Ok k → JoinStepIs T base i j Case w w B B b a (Ok (JoinStep.So k))
-        nothing-so e = piece-undefined z m (record { is = sym (ap step_of e) }) l
-
-        pub nothing-refused : {e : Refusal} → q ≡ Err e → JoinStepIs T base i j Case w w B B b a (Err e)
-        nothing-refused e = piece-undefined z m (record { is = sym (ap step_of e) }) l
