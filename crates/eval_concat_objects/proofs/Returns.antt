@@ -260,8 +260,8 @@ module _ {B w b : List ℕ} {base i : ℕ} (A : PieceAsked B w b base i) {j : Jo
         ap (λ (u : Given Answer). then u (λ v. join_piece_in place gap v J)) c;
   }
 
-  pub worked-undefined : {T : List ℕ} {p : Refusal} → q ≡ Worked.Undefined → WorkedJoinedIs T base i j q w w B B b b (Err p)
-  worked-undefined {T} z = record {
+  pub worked-undefined : {T : List ℕ} {p : Refusal} → q ≡ Worked.Undefined → p ≡ too_large_c → WorkedJoinedIs T base i j q w w B B b b (Err p)
+  worked-undefined {T} z t = record {
     left = stays base;
     beside = nothing-beside;
     whole = A.whole;

@@ -242,8 +242,8 @@ module _ {X : List ℕ} {at ends count : ℕ} {name : List ℕ} {i from used : �
           first = I.first;
         }
 
-  pub comparing-ends : i < count → ends + 2 * i ≤ 1048576
-  comparing-ends h = let m = I.many in let f = I.far in omega arith
+  pub comparing-ends : ends + 2 * i ≤ 1048576
+  comparing-ends = let n = I.low in let m = I.many in let f = I.far in omega arith
 
   pub comparing-at : at + from ≤ 1048576
   comparing-at = let h = I.begin in let f = I.first in omega arith
