@@ -75,8 +75,8 @@
  *     most DZ_STACK_MAX bytes of it, dz_look_up(), dz_length() and dz_profile() at
  *     most DZ_LOOK_UP_STACK_MAX, and a thread's stack must have them free: threads
  *     of musl have 131,072 bytes unless more is asked for. This is measured, and
- *     not proved: the worst document found takes 466,168 bytes.
- * Needs. The archive needs memcpy and memset of the C library, and nothing
+ *     not proved: the worst document found takes 464,024 bytes.
+ * Needs. The archive needs memset of the C library, and nothing
  *     else. It has no unwind tables: nothing can be thrown through it.
  */
 #ifndef DZINTRULO_H
